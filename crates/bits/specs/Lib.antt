@@ -1,0 +1,4 @@
+pub mod Bits
+pub mod Bytes
+pub mod Latch
+pub mod Examples

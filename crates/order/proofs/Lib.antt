@@ -1,0 +1,7 @@
+pub mod Orders
+pub mod Runs
+pub mod Cells
+pub mod Rule
+pub mod Clash
+pub mod Blocks
+pub mod Examples
