@@ -2,14 +2,14 @@
 use mathlib.Core.Path.{_≡_, refl, sym, ap, ap₂, _∙_}
 use mathlib.Core.Logic.{⊎-elim}
 use borrow.Author.Tests.{lt-ltb, lt-leb, le-leb, eq-eqb, ne-eqb}
-use mathlib.Core.Bool.{Bool, true, false, not, _&&_, _||_, xor, and-true}
+use mathlib.Core.Bool.{Bool, true, false, not, _&&_, _||_, xor, and-true, and-comm}
 use Prim.Native.Nat.{ℕ, zero, suc, _+_, _-_, _*_, _/_, _%_, _^_, _≤_, _<_}
-use native.Mathlib.Nat.{mod-lt, add-zero, add-sub-of-le, eq-or-lt-of-le}
+use native.Mathlib.Nat.{mod-lt, add-zero, add-sub-of-le, eq-or-lt-of-le, lt-of-lt-of-le}
 use native.Mathlib.Omega.{arith}
 use native.Mathlib.Numerals.{add-one}
 use lib.Dec.{eqb, leb, ltb}
 use lib.Bits.{bitAnd, bitOr, bitXor, and-shr, or-shr, xor-shr, xor-lt, and-mod, or-mod, xor-mod, or-shifted-r}
-use lib.Pow.{pow-pos, shl-exact}
+use lib.Pow.{pow-mono, pow-pos, shl-exact}
 use mir.Syntax.{Width, w64}
 use mir.Val.{Fits, bits}
 use mir.Facts.{fits-and, fits-or, fits-xor, fits-sub, fits-div, fits-lit}
@@ -141,6 +141,10 @@ bit-place b j i = bit-up j (digit b) i ∙ ⊎-elim under (λ l. ⊎-elim here o
 pub bit-one : (j i : ℕ) → bit (1 * 2 ^ j) i ≡ eqb i j
 bit-one j i = bit-place true j i ∙ and-true (eqb i j)
 
+-- the bits below j alone
+pub word-low : (j k : ℕ) (f : ℕ → Bool) → j ≤ k → word k (λ i. f i && ltb i j) ≡ word j f
+word-low j k f l = sym (is-word k (lt-of-lt-of-le (word-lt j f) (pow-mono l)) (λ i h. bit-of-word j f i ∙ and-comm (ltb i j) (f i)))
+
 -- ---- a number that a type holds
 
 -- the way to show that it is a word; `search` shows both premises by the rulesets below
@@ -149,9 +153,6 @@ as-word w h e = is-word (bits w) (h .fits) e
 
 pub fits-rem : {w : Width} (n : ℕ) → Fits w (n % 2 ^ bits w)
 fits-rem {w} n = record { fits = mod-lt n (pow-pos (bits w)) }
-
-pub fits-word : (w : Width) (f : ℕ → Bool) → Fits w (word (bits w) f)
-fits-word w f = record { fits = word-lt (bits w) f }
 
 pub ruleset fit = (fits-rem, fits-and, fits-or, fits-xor, fits-sub, fits-div, fits-lit)
 
@@ -167,9 +168,5 @@ bit-not64 = bit-not w64
 
 pub bit-mod64 : (n i : ℕ) → i < 64 → bit (n % 2 ^ 64) i ≡ bit n i
 bit-mod64 = bit-mod 64
-
--- the word of a number's bits
-pub word-of64 : {n : ℕ} → Fits w64 n → word 64 (bit n) ≡ n
-word-of64 h = word-bit 64 (h .fits)
 
 pub ruleset words64 = (as-word64, bit-not64, bit-mod64, words)

@@ -3,14 +3,14 @@ use mathlib.Core.Path.{_≡_, refl, sym, ap, _∙_}
 use mathlib.Core.Bool.{Bool, true, false, cond, _&&_, true≢false}
 use Prim.Native.Nat.{ℕ, _+_, _*_, _≤_, _<_, _^_, _%_, _-_}
 use borrow.Author.Tests.{lt-ltb, ne-eqb}
-use native.Mathlib.Nat.{mod-lt}
+use native.Mathlib.Nat.{mod-lt, one-mul}
 use native.Mathlib.Omega.{arith}
-use lib.Pow.{pow-pos}
+use lib.Dec.{eqb}
+use lib.Pow.{pow-lt, pow-pos}
 use lib.Bits.{bitAnd}
 use Rattle.bits.specs.Bits.{bit, digit, word, merge, put}
 use Rattle.bits.proofs.Words.{bit-digit, word-cong, word-lt, bit-word, bit-zero, bit-mod, is-word}
-use Rattle.bits.proofs.Operations.{bit-and, bit-ones}
-use Rattle.bits.proofs.Taut.{taut}
+use Rattle.bits.proofs.Operations.{bit-and, bit-one, bit-ones}
 
 pub merge-lt : (k o m v : ℕ) → merge k o m v < 2 ^ k
 unfolding merge
@@ -23,13 +23,6 @@ bit-merge k o m v i h = bit-word k _ i h
 pub merge-none : (k o v : ℕ) → o < 2 ^ k → merge k o 0 v ≡ o
 unfolding merge
 merge-none k o v h = sym (is-word k h (λ i l. search bit-zero))
-
-last : (m a b o : Bool) → cond m b (cond m a o) ≡ cond m b o
-last = taut 4 _ _ tt
-
-pub merge-twice : (k o m a b : ℕ) → merge k (merge k o m a) m b ≡ merge k o m b
-unfolding merge
-merge-twice k o m a b = word-cong k (λ i h. simp (bit-word, last))
 
 -- writes of other bits change places
 apart : (m n a b o : Bool) → (m && n) ≡ false → cond n b (cond m a o) ≡ cond m a (cond n b o)
@@ -72,6 +65,15 @@ merge-all k o v = word-cong k (λ i h. rw (bit-ones, lt-ltb i k h))
 pub put-past : (k w j : ℕ) (b : Bool) → k ≤ j → w < 2 ^ k → w ≡ put k w j b
 unfolding put
 put-past k w j b p h = is-word k h (λ i l. rw (ne-eqb i j (omega arith)))
+
+-- the word with bit j alone
+pub put-one : (k j : ℕ) → j < k → put k 0 j true ≡ 2 ^ j
+unfolding put
+put-one k j h = sym (is-word k (pow-lt {i = j} {j = k} h) (λ i l. (rw one-mul at (bit-one j i)) ∙ alone (eqb i j) (bit-zero i)))
+  where
+    alone : (t : Bool) {b : Bool} → b ≡ false → t ≡ cond t true b
+    alone true e = refl
+    alone false e = sym e
 
 -- a word of one bit
 pub merge-one : (g : Bool) (m v : ℕ) → digit (cond (bit m 0) (bit v 0) g) ≡ merge 1 (digit g) m v

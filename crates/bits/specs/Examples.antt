@@ -1,7 +1,7 @@
 -- The definitions compute: examples, each closed by computation alone.
 use mathlib.Core.Path.{_≡_, refl}
-use mathlib.Core.Bool.{true, false}
-use mathlib.Core.List.{List, [], _∷_}
+use mathlib.Core.Bool.{true}
+use mathlib.Core.List.{[], _∷_}
 use Rattle.bits.specs.Bits.{bit, word, merge, put, some, first}
 use Rattle.bits.specs.Bytes.{writtenBytes, gathered}
 use Rattle.bits.specs.Latch.{latched}

@@ -2,7 +2,6 @@
 ghost use mathlib.Core.Path.{_≡_};
 ghost use mathlib.Core.Bool.{false, _&&_};
 ghost use Prim.Native.Nat.{_/_};
-ghost use lib.ListN.{getD};
 ghost use Rattle.bits.specs.Bits as specs;
 ghost use Rattle.bits.specs.Bytes as bytes;
 ghost use Rattle.bits.specs.Latch as latches;

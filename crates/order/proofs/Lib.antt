@@ -4,4 +4,5 @@ pub mod Cells
 pub mod Rule
 pub mod Clash
 pub mod Blocks
+pub mod Slots
 pub mod Examples

@@ -1,0 +1,19 @@
+use borrow.Author.Tests.{eq-eqb, ne-eqb}
+use Rattle.access.specs.Access.{listed}
+use borrow.Author.Needs.{needs}
+use Rattle.access.proofs.lists.Statement.{statement}
+use Rattle.access.proofs.lists.Tie as tie
+
+pub lists-spec : {M : Type 1} → statement M
+unfolding listed
+lists-spec =
+    tie.close
+    (tie.spec
+    (λ c. search needs)  -- enum-told
+    (λ c. search needs)  -- enum-told-2
+    (λ c. search needs)  -- enum-told-3
+    (λ c. simp (c .enum-told .given .1))  -- returns
+    (λ c. simp (c .enum-told2 .given .1))  -- returns-2
+    (λ c. simp (eq-eqb _ _ (c .if1 .taken), c .before .enum-told3 .given .1))  -- returns-3
+    (λ c. simp (ne-eqb _ _ (c .if1 .left), c .before .enum-told3 .given .1))  -- returns-4
+    )

@@ -1,0 +1,39 @@
+-- The rights and widths of a register, and the refusals that every access to it may meet (01, "Refusal numbers", 4, 5 and 6).
+--   permitted   its rights allow the access     fitting   the value fits the width
+--   listed      its widths have the width       judged    the first of 4, 5, 6 that applies
+use Prim.Native.Nat.{ℕ, _^_}
+use mathlib.Core.Bool.{Bool, true, cond, not, _||_}
+use lib.Dec.{eqb, ltb}
+use Rattle.access.specs.declared.Access.{Access}
+use Rattle.access.specs.declared.Rights.{Rights}
+use Rattle.access.specs.declared.Rights.the-variants.{Read, Write, Both}
+use Rattle.access.specs.declared.Widths.{Widths}
+use Rattle.access.specs.declared.Widths.the-variants.{Four, Eight, FourOrEight}
+use Rattle.access.specs.declared.Refusal.the-variants.{Width, Right, Value}
+use Rattle.access.specs.declared.Verdict.{Verdict}
+use Rattle.access.specs.declared.Verdict.the-variants.{Accepted}
+use Rattle.access.specs.Refusal.{refuseIf}
+
+-- an access, a write or a read, is allowed by the rights
+unfoldable pub permitted : Rights → Bool → Bool
+permitted Read write = not write
+permitted Write write = write
+permitted Both write = true
+
+-- a width in bytes is one of those listed
+unfoldable pub listed : Widths → ℕ → Bool
+listed Four width = eqb width 4
+listed Eight width = eqb width 8
+listed FourOrEight width = eqb width 4 || eqb width 8
+
+-- four bytes hold 32 bits, eight hold 64
+unfoldable pub fitting : ℕ → ℕ → Bool
+fitting width value = ltb value (cond (eqb width 4) (2 ^ 32) (2 ^ 64))
+
+-- 4, 5, 6
+unfoldable pub judged : Access → ℕ → Bool → ℕ → Verdict
+judged access width write value =
+    refuseIf (not (listed (access .widths) width)) Width
+    (refuseIf (not (permitted (access .rights) write)) Right
+    (refuseIf (not (fitting width value)) Value
+    Accepted))

@@ -1,0 +1,104 @@
+// What every register block shares: refusals and their numbers, the rights and widths of a register, and the refusals of an access to it.
+ghost use mathlib.Core.Path.{_≡_};
+ghost use Rattle.access.specs.Refusal.{refusalNumber};
+ghost use Rattle.access.specs.Access.{fitting, judged, listed, permitted};
+
+// Why a step is refused, in the order of 01's numbers.
+pub enum Refusal {
+    Core,
+    Register,
+    Window,
+    Width,
+    Right,
+    Value,
+    Source,
+    Distribution,
+}
+
+pub enum Verdict {
+    Accepted,
+    Refused(Refusal),
+}
+
+pub enum Rights {
+    Read,
+    Write,
+    Both,
+}
+
+pub enum Widths {
+    Four,
+    Eight,
+    FourOrEight,
+}
+
+// How a register may be accessed.
+pub struct Access {
+    pub rights: Rights,
+    pub widths: Widths,
+}
+
+// 01's number of a refusal.
+pub fn refusal_number(refusal: Refusal) -> u64
+    ensures { λ r. ⌜ r ≡ refusalNumber refusal ⌝ }
+{
+    match refusal {
+        Refusal::Core => 1,
+        Refusal::Register => 2,
+        Refusal::Window => 3,
+        Refusal::Width => 4,
+        Refusal::Right => 5,
+        Refusal::Value => 6,
+        Refusal::Source => 7,
+        Refusal::Distribution => 8,
+    }
+}
+
+pub fn permits(rights: Rights, write: bool) -> bool
+    ensures { λ r. ⌜ r ≡ permitted rights write ⌝ }
+{
+    match rights {
+        Rights::Read => !write,
+        Rights::Write => write,
+        Rights::Both => true,
+    }
+}
+
+fn lists(widths: Widths, width: u64) -> bool
+    ensures { λ r. ⌜ r ≡ listed widths width ⌝ }
+{
+    match widths {
+        Widths::Four => width == 4,
+        Widths::Eight => width == 8,
+        Widths::FourOrEight => width == 4 || width == 8,
+    }
+}
+
+// The value fits the width. Eight bytes hold every u64.
+fn fits(width: u64, value: u64) -> bool
+    ensures { λ r. ⌜ r ≡ fitting width value ⌝ }
+{
+    if width == 4 {
+        value < 0x1_0000_0000
+    } else {
+        true
+    }
+}
+
+// The first refusal that applies, of 4, 5 and 6.
+pub fn judge(access: Access, width: u64, write: bool, value: u64) -> Verdict
+    ensures { λ r. ⌜ r ≡ judged access width write value ⌝ }
+{
+    let rights = access.rights;
+    let widths = access.widths;
+    if lists(widths, width) {
+        if permits(rights, write) {
+            if fits(width, value) {
+                return Verdict::Accepted;
+            }
+            return Verdict::Refused(Refusal::Value);
+        }
+        return Verdict::Refused(Refusal::Right);
+    }
+    Verdict::Refused(Refusal::Width)
+}

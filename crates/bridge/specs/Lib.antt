@@ -1,0 +1,4 @@
+pub mod Sources
+pub mod Changes
+pub mod Registers
+pub mod Cells

@@ -1,0 +1,98 @@
+-- The device and its four lines (01, "The cells", "Bus window" and "The four lines").
+--   freshOf, resetOf   the fresh state and the reset values      readOf       what an accepted bus or private read gives
+--   ipiLine, bridgeLine   the four lines                         answeredOf   an outcome beside the lines
+use Prim.Native.Nat.{ℕ, _^_}
+use mathlib.Core.Bool.{Bool, true, false, cond, _&&_}
+use lib.Dec.{eqb}
+use lib.ListN.{replicate}
+use Rattle.ipi.specs.declared.Core.{Core}
+use Rattle.ipi.specs.Core as ipi
+use Rattle.bridge.specs.declared.Bridge.{Bridge}
+use Rattle.bridge.specs.declared.Lines.{Lines}
+use Rattle.bridge.specs.Sources as bridge
+use Rattle.windows.specs.declared.Place.{Place}
+use Rattle.windows.specs.declared.Place.the-variants.{Message, Gate, GateHigh}
+use Rattle.device.specs.declared.Device.{Device}
+use Rattle.device.specs.declared.Outcome.{Outcome}
+use Rattle.device.specs.declared.Stepped.{Stepped}
+
+-- ---- the fresh state and the reset values
+
+abbrev freshCore : Core
+freshCore = record { status = 0; enable = 0; mail = replicate 4 0 }
+
+-- masks 1 (table 8-2); everything else 0; second window open; the input levels are outside wires
+unfoldable pub resetOf : ℕ → Device
+resetOf level = record {
+  core0 = freshCore;
+  core1 = freshCore;
+  bridge = record { mask = 0xffffffffffffffff; msi = 0; edge = 0; latch = 0; soft = 0; level = level; routes = replicate 64 0 };
+  gate = false;
+  «second_open» = true;
+}
+
+-- input levels start at 0
+abbrev pub freshOf : Device
+freshOf = resetOf 0
+
+-- ---- parts of the device
+
+abbrev pub coreOf : Device → ℕ → Core
+coreOf d c = cond (eqb c 0) (d .core0) (d .core1)
+
+abbrev pub withCore0 : Device → Core → Device
+withCore0 d k = record { core0 = k; core1 = d .core1; bridge = d .bridge; gate = d .gate; «second_open» = d .«second_open» }
+
+abbrev pub withCore1 : Device → Core → Device
+withCore1 d k = record { core0 = d .core0; core1 = k; bridge = d .bridge; gate = d .gate; «second_open» = d .«second_open» }
+
+abbrev pub withCore : Device → ℕ → Core → Device
+withCore d c k = cond (eqb c 0) (withCore0 d k) (withCore1 d k)
+
+abbrev pub withBridge : Device → Bridge → Device
+withBridge d b = record { core0 = d .core0; core1 = d .core1; bridge = b; gate = d .gate; «second_open» = d .«second_open» }
+
+-- the gate takes a value where a write reaches it
+abbrev pub withGate : Device → Bool → Bool → Device
+withGate d written on =
+    record { core0 = d .core0; core1 = d .core1; bridge = d .bridge; gate = cond written on (d .gate); «second_open» = d .«second_open» }
+
+abbrev pub withOpen : Device → Bool → Device
+withOpen d opened = record { core0 = d .core0; core1 = d .core1; bridge = d .bridge; gate = d .gate; «second_open» = opened }
+
+-- ---- reading
+
+-- the gate as the one bit that can be 1
+abbrev pub gateRead : Bool → ℕ → ℕ
+gateRead gate weight = cond gate weight 0
+
+-- at 0x0420 it is bit 48, which 4 bytes do not reach
+abbrev pub gateWeight : ℕ → ℕ
+gateWeight width = cond (eqb width 8) (2 ^ 48) 0
+
+unfoldable pub readOf : Device → Place → ℕ → ℕ
+readOf d (Message c register) width = ipi.readOf (coreOf d c) register width
+readOf d Gate width = gateRead (d .gate) (gateWeight width)
+readOf d GateHigh width = gateRead (d .gate) (2 ^ 16)  -- 0x0424 shows the gate as its bit 16
+
+-- ---- the four lines
+
+-- bridge line k at the node: gate is 1 and some bit of INTISR_CHIPk is 1
+abbrev pub bridgeLine : Device → ℕ → Bool
+bridgeLine d k = d .gate && bridge.lineOf (d .bridge) k
+
+abbrev pub linesOf : Device → Lines
+linesOf d = record { chip0 = bridgeLine d 0; chip1 = bridgeLine d 1 }
+
+-- the outcome beside the four lines
+unfoldable pub answeredOf : Device → Outcome → Stepped
+answeredOf d outcome = record {
+  answer = record {
+    outcome = outcome;
+    ipi0 = ipi.lineOf (d .core0);
+    ipi1 = ipi.lineOf (d .core1);
+    bridge0 = bridgeLine d 0;
+    bridge1 = bridgeLine d 1;
+  };
+  device = d;
+}

@@ -1,0 +1,4 @@
+pub mod Device
+pub mod Step
+pub mod Promises
+pub mod Examples

@@ -1,0 +1,248 @@
+// The device: two cores, the bridge, the gate and the switch of the second window; one step at a time, by value.
+ghost use mathlib.Core.Path.{_≡_};
+ghost use Rattle.device.specs.Device.{answeredOf, coreOf, freshOf, gateRead, gateWeight, linesOf, readOf, resetOf, withBridge, withCore, withGate, withOpen};
+ghost use Rattle.device.specs.Step.{nextOf, outcomeData, outcomeNumber, outcomeOf, stepOf};
+use access::Refusal;
+use bridge::Bridge;
+use ipi::Core;
+use steps::Plan;
+use steps::Step;
+use windows::Place;
+
+pub struct Device {
+    pub core0: Core,
+    pub core1: Core,
+    pub bridge: Bridge,
+    pub gate: bool,
+    pub second_open: bool,
+}
+
+pub enum Outcome {
+    Value(u64),
+    Refused(Refusal),
+}
+
+// The outcome beside the four lines after the step.
+pub struct Answer {
+    pub outcome: Outcome,
+    pub ipi0: bool,
+    pub ipi1: bool,
+    pub bridge0: bool,
+    pub bridge1: bool,
+}
+
+pub struct Stepped {
+    pub answer: Answer,
+    pub device: Device,
+}
+
+impl Outcome {
+    // 01's number of the refusal, and 0 where the step was accepted.
+    pub fn number(self) -> u64
+        ensures { λ r. ⌜ r ≡ outcomeNumber self ⌝ }
+    {
+        match self {
+            Outcome::Value(_) => 0,
+            Outcome::Refused(refusal) => access::refusal_number(refusal),
+        }
+    }
+
+    // The read data: 0 for a refusal.
+    pub fn data(self) -> u64
+        ensures { λ r. ⌜ r ≡ outcomeData self ⌝ }
+    {
+        match self {
+            Outcome::Value(value) => value,
+            Outcome::Refused(_) => 0,
+        }
+    }
+}
+
+// The gate shown as the bit that `weight` has.
+fn gate_read(gate: bool, weight: u64) -> u64
+    ensures { λ r. ⌜ r ≡ gateRead gate weight ⌝ }
+{
+    if gate { weight } else { 0 }
+}
+
+fn gate_weight(width: u64) -> u64
+    ensures { λ r. ⌜ r ≡ gateWeight width ⌝ }
+{
+    if width == 8 { 0x1_0000_0000_0000 } else { 0 }
+}
+
+impl Device {
+    // The reset values that are not 0.
+    pub const MASKS: u64 = 0xffff_ffff_ffff_ffff;
+
+    pub const SECOND_OPEN: bool = true;
+
+    pub fn fresh() -> Device
+        ensures { λ r. ⌜ r ≡ freshOf ⌝ }
+    {
+        Device::with_levels(0)
+    }
+
+    // The reset values beside the input levels.
+    fn with_levels(level: u64) -> Device
+        ensures { λ r. ⌜ r ≡ resetOf level ⌝ }
+    {
+        Device {
+            core0: Core {
+                status: 0,
+                enable: 0,
+                mail: [0; 4],
+            },
+            core1: Core {
+                status: 0,
+                enable: 0,
+                mail: [0; 4],
+            },
+            bridge: Bridge {
+                mask: Device::MASKS,
+                msi: 0,
+                edge: 0,
+                latch: 0,
+                soft: 0,
+                level: level,
+                routes: [0; 64],
+            },
+            gate: false,
+            second_open: Device::SECOND_OPEN,
+        }
+    }
+
+    fn core(self, c: u64) -> Core
+        ensures { λ r. ⌜ r ≡ coreOf self c ⌝ }
+    {
+        if c == 0 { self.core0 } else { self.core1 }
+    }
+
+    fn with_core(mut self, c: u64, core: Core) -> Device
+        ensures { λ r. ⌜ r ≡ withCore self c core ⌝ }
+    {
+        if c == 0 {
+            self.core0 = core;
+            return self;
+        }
+        self.core1 = core;
+        self
+    }
+
+    fn with_bridge(mut self, b: Bridge) -> Device
+        ensures { λ r. ⌜ r ≡ withBridge self b ⌝ }
+    {
+        self.bridge = b;
+        self
+    }
+
+    fn with_gate(mut self, written: bool, on: bool) -> Device
+        ensures { λ r. ⌜ r ≡ withGate self written on ⌝ }
+    {
+        if written {
+            self.gate = on;
+        }
+        self
+    }
+
+    fn with_open(mut self, opened: bool) -> Device
+        ensures { λ r. ⌜ r ≡ withOpen self opened ⌝ }
+    {
+        self.second_open = opened;
+        self
+    }
+
+    // What an accepted read of a place gives.
+    fn read(self, place: Place, width: u64) -> u64
+        ensures { λ r. ⌜ r ≡ readOf self place width ⌝ }
+    {
+        match place {
+            Place::Message { core, register } => self.core(core).read(register, width),
+            Place::Gate => gate_read(self.gate, gate_weight(width)),
+            Place::GateHigh => gate_read(self.gate, 0x1_0000),
+        }
+    }
+
+    fn outcome(self, plan: Plan) -> Outcome
+        ensures { λ r. ⌜ r ≡ outcomeOf self plan ⌝ }
+    {
+        let b = self.bridge;
+        match plan {
+            Plan::Refuse(refusal) => Outcome::Refused(refusal),
+            Plan::Read { place, width } => Outcome::Value(self.read(place, width)),
+            Plan::WriteCore { core: _, effect: _ } => Outcome::Value(0),
+            Plan::WriteGate { written: _, on: _ } => Outcome::Value(0),
+            Plan::ReadBridge(register) => Outcome::Value(b.read(register)),
+            Plan::WriteBridge(_) => Outcome::Value(0),
+            Plan::Input {
+                source: _,
+                level: _,
+            } => Outcome::Value(0),
+            Plan::Window(_) => Outcome::Value(0),
+            Plan::Reset => Outcome::Value(0),
+        }
+    }
+
+    fn next(self, plan: Plan) -> Device
+        ensures { λ r. ⌜ r ≡ nextOf self plan ⌝ }
+    {
+        let b = self.bridge;
+        match plan {
+            Plan::Refuse(_) => self,
+            Plan::Read { place: _, width: _ } => self,
+            Plan::WriteCore { core, effect } => {
+                self.with_core(core, self.core(core).applied(effect))
+            }
+            Plan::WriteGate { written, on } => self.with_gate(written, on),
+            Plan::ReadBridge(_) => self,
+            Plan::WriteBridge(change) => self.with_bridge(b.changed(change)),
+            Plan::Input { source, level } => self.with_bridge(b.input(source, level)),
+            Plan::Window(open) => self.with_open(open),
+            Plan::Reset => Device::with_levels(b.level),
+        }
+    }
+
+    // The bridge's lines at the node, behind the gate.
+    fn bridge_lines(self) -> bridge::Lines
+        ensures { λ r. ⌜ r ≡ linesOf self ⌝ }
+    {
+        let b = self.bridge;
+        if self.gate {
+            return b.lines();
+        }
+        bridge::Lines {
+            chip0: false,
+            chip1: false,
+        }
+    }
+
+    // The outcome beside the four lines.
+    fn answered(self, outcome: Outcome) -> Stepped
+        ensures { λ r. ⌜ r ≡ answeredOf self outcome ⌝ }
+    {
+        let core0 = self.core0;
+        let core1 = self.core1;
+        let lines = self.bridge_lines();
+        let ipi0 = core0.line();
+        let ipi1 = core1.line();
+        Stepped {
+            answer: Answer {
+                outcome: outcome,
+                ipi0: ipi0,
+                ipi1: ipi1,
+                bridge0: lines.chip0,
+                bridge1: lines.chip1,
+            },
+            device: self,
+        }
+    }
+
+    // One step, answered whatever it is.
+    pub fn step(self, step: Step) -> Stepped
+        ensures { λ r. ⌜ r ≡ stepOf self step ⌝ }
+    {
+        let plan = steps::decide(step, self.second_open);
+        let outcome = self.outcome(plan);
+        self.next(plan).answered(outcome)
+    }
+}

@@ -1,0 +1,278 @@
+// Chapter 7: the inter-core interrupt cells and mailboxes of one core, its registers by offset, and the two sends.
+ghost use mathlib.Core.Path.{_≡_};
+ghost use Prim.Native.Nat.{_+_, _<_};
+ghost use lib.ListN.{getD, set};
+ghost use Rattle.ipi.specs.Table.{entry, entryAt, privateEntryAt};
+ghost use Rattle.ipi.specs.Effect.{effectOf, halfOf, inHalf, ipiSent, mailSent, targetOf};
+ghost use Rattle.ipi.specs.Core.{appliedOf, lineOf, mailBoxRead, readOf};
+use access::Access;
+use access::Rights;
+use access::Widths;
+
+pub struct Core {
+    pub status: u32,
+    pub enable: u32,
+    pub mail: [u64; 4],
+}
+
+// A register that an offset names. The low half of a mailbox is the mailbox at width 4.
+pub enum Register {
+    Status,
+    Enable,
+    Set,
+    Clear,
+    MailBox(u64),
+    MailBoxHigh(u64),
+    IpiSend,
+    MailSend,
+}
+
+pub struct Entry {
+    pub register: Register,
+    pub access: Access,
+}
+
+pub enum Found {
+    Nothing,
+    At(Entry),
+}
+
+// A cell that a write reaches.
+pub enum Cell {
+    Status,
+    Enable,
+    MailBox(u64),
+}
+
+// The bits of the cell that are in mask take the values in bits.
+pub struct Effect {
+    pub cell: Cell,
+    pub mask: u64,
+    pub bits: u64,
+}
+
+fn entry_of(register: Register, rights: Rights, widths: Widths) -> Found
+    ensures { λ r. ⌜ r ≡ entry register rights widths ⌝ }
+{
+    Found::At(Entry {
+        register: register,
+        access: Access {
+            rights: rights,
+            widths: widths,
+        },
+    })
+}
+
+// The register that starts at an offset, without the core term.
+pub fn entry_at(offset: u64) -> Found
+    ensures { λ r. ⌜ r ≡ entryAt offset ⌝ }
+{
+    match offset {
+        0x1000 => entry_of(Register::Status, Rights::Read, Widths::Four),
+        0x1004 => entry_of(Register::Enable, Rights::Both, Widths::Four),
+        0x1008 => entry_of(Register::Set, Rights::Write, Widths::Four),
+        0x100c => entry_of(Register::Clear, Rights::Write, Widths::Four),
+        0x1020..=0x103f => mailbox_at(offset - 0x1020),
+        _ => Found::Nothing,
+    }
+}
+
+// The register that starts at a place in the mailboxes.
+fn mailbox_at(at: u64) -> Found
+    requires { ⌜ at < 32 ⌝ }
+    ensures { λ r. ⌜ r ≡ entryAt (0x1020 + at) ⌝ }
+{
+    match at % 8 {
+        0 => entry_of(Register::MailBox(at / 8), Rights::Both, Widths::FourOrEight),
+        4 => entry_of(Register::MailBoxHigh(at / 8), Rights::Both, Widths::Four),
+        _ => Found::Nothing,
+    }
+}
+
+// The same in the private window, which has the two sends too.
+pub fn private_entry_at(offset: u64) -> Found
+    ensures { λ r. ⌜ r ≡ privateEntryAt offset ⌝ }
+{
+    match offset {
+        0x1040 => entry_of(Register::IpiSend, Rights::Write, Widths::Four),
+        0x1048 => entry_of(Register::MailSend, Rights::Write, Widths::Eight),
+        _ => entry_at(offset),
+    }
+}
+
+fn target_field(value: u64) -> u64
+    ensures { λ r. ⌜ r ≡ targetOf Register.IpiSend 0 value ⌝ }
+{
+    value / 0x10000 % 0x400
+}
+
+// The core whose cells a write reaches: the target of a send, and else the core itself.
+pub fn target(register: Register, core: u64, value: u64) -> u64
+    ensures { λ r. ⌜ r ≡ targetOf register core value ⌝ }
+{
+    match register {
+        Register::Status => core,
+        Register::Enable => core,
+        Register::Set => core,
+        Register::Clear => core,
+        Register::MailBox(_) => core,
+        Register::MailBoxHigh(_) => core,
+        Register::IpiSend => target_field(value),
+        Register::MailSend => target_field(value),
+    }
+}
+
+fn effect_on(cell: Cell, mask: u64, bits: u64) -> Effect
+    ensures { λ r. ⌜ r ≡ record { cell = cell; mask = mask; bits = bits } ⌝ }
+{
+    Effect {
+        cell: cell,
+        mask: mask,
+        bits: bits,
+    }
+}
+
+// The low 32 bits of x, in half h of a mailbox: even halves are low.
+fn in_half(h: u64, x: u64) -> u64
+    ensures { λ r. ⌜ r ≡ inHalf h x ⌝ }
+{
+    match h % 2 {
+        0 => x % 0x1_0000_0000,
+        _ => x % 0x1_0000_0000 * 0x1_0000_0000,
+    }
+}
+
+// A write to a half, of the bits in mask.
+fn half_effect(h: u64, mask: u64, bits: u64) -> Effect
+    ensures { λ r. ⌜ r ≡ halfOf h mask bits ⌝ }
+{
+    effect_on(Cell::MailBox(h / 2), in_half(h, mask), in_half(h, bits))
+}
+
+// A write to a mailbox: all of it, or its low half.
+fn mailbox_effect(i: u64, width: u64, value: u64) -> Effect
+    ensures { λ r. ⌜ r ≡ effectOf (Register.MailBox i) width value ⌝ }
+{
+    if width == 8 {
+        effect_on(Cell::MailBox(i), 0xffff_ffff_ffff_ffff, value)
+    } else {
+        effect_on(Cell::MailBox(i), 0xffff_ffff, in_half(0, value))
+    }
+}
+
+fn ipi_effect(value: u64) -> Effect
+    ensures { λ r. ⌜ r ≡ ipiSent value ⌝ }
+{
+    let vector = bits::put(0, value % 32, true);
+    effect_on(Cell::Status, vector, vector)
+}
+
+fn mail_effect(value: u64) -> Effect
+    ensures { λ r. ⌜ r ≡ mailSent value ⌝ }
+{
+    half_effect(
+        value / 4 % 8,
+        bits::written_bytes(value / 0x800_0000 % 16),
+        value / 0x1_0000_0000 % 0x1_0000_0000,
+    )
+}
+
+// What a write to a register does. No write to Status is accepted.
+pub fn write_effect(register: Register, width: u64, value: u64) -> Effect
+    ensures { λ r. ⌜ r ≡ effectOf register width value ⌝ }
+{
+    match register {
+        Register::Status => effect_on(Cell::Status, 0, 0),
+        Register::Enable => effect_on(Cell::Enable, 0xffff_ffff, value),
+        Register::Set => effect_on(Cell::Status, value, value),
+        Register::Clear => effect_on(Cell::Status, value, 0),
+        Register::MailBox(i) => mailbox_effect(i, width, value),
+        Register::MailBoxHigh(i) => {
+            effect_on(Cell::MailBox(i), 0xffff_ffff_0000_0000, in_half(1, value))
+        }
+        Register::IpiSend => ipi_effect(value),
+        Register::MailSend => mail_effect(value),
+    }
+}
+
+fn mailbox(all: [u64; 4], i: u64) -> u64
+    ensures { λ r. ⌜ r ≡ getD all i 0 ⌝ }
+{
+    if i < 4 { all[i as usize] } else { 0 }
+}
+
+fn put_mailbox(mut all: [u64; 4], i: u64, v: u64) -> [u64; 4]
+    ensures { λ r. ⌜ r ≡ set all i v ⌝ }
+{
+    if i < 4 {
+        all[i as usize] = v;
+    }
+    all
+}
+
+fn mailbox_read(word: u64, width: u64) -> u64
+    ensures { λ r. ⌜ r ≡ mailBoxRead word width ⌝ }
+{
+    if width == 8 {
+        word
+    } else {
+        word % 0x1_0000_0000
+    }
+}
+
+fn wide(x: u32) -> u64
+    ensures { λ r. ⌜ r ≡ x ⌝ }
+{
+    x as u64
+}
+
+impl Core {
+    // What a register reads as. No read of Set, Clear or a send is accepted.
+    pub fn read(self, register: Register, width: u64) -> u64
+        ensures { λ r. ⌜ r ≡ readOf self register width ⌝ }
+    {
+        let mail = self.mail;
+        match register {
+            Register::Status => wide(self.status),
+            Register::Enable => wide(self.enable),
+            Register::Set => 0,
+            Register::Clear => 0,
+            Register::MailBox(i) => mailbox_read(mailbox(mail, i), width),
+            Register::MailBoxHigh(i) => mailbox(mail, i) / 0x1_0000_0000,
+            Register::IpiSend => 0,
+            Register::MailSend => 0,
+        }
+    }
+
+    // The core after an effect.
+    pub fn applied(mut self, effect: Effect) -> Core
+        ensures { λ r. ⌜ r ≡ appliedOf self effect ⌝ }
+    {
+        let mail = self.mail;
+        let cell = effect.cell;
+        let mask = effect.mask;
+        let bits = effect.bits;
+        match cell {
+            Cell::Status => {
+                self.status = bits::merge32(self.status, mask, bits);
+                self
+            }
+            Cell::Enable => {
+                self.enable = bits::merge32(self.enable, mask, bits);
+                self
+            }
+            Cell::MailBox(i) => {
+                let new = put_mailbox(mail, i, bits::merge(mailbox(mail, i), mask, bits));
+                self.mail = new;
+                self
+            }
+        }
+    }
+
+    // The interrupt line: some bit is 1 in both Status and Enable.
+    pub fn line(self) -> bool
+        ensures { λ r. ⌜ r ≡ lineOf self ⌝ }
+    {
+        bits::common32(self.status, self.enable)
+    }
+}

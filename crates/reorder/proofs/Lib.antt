@@ -1,0 +1,3 @@
+pub mod Cells
+pub mod Rule
+pub mod Clashes

@@ -1,0 +1,22 @@
+use Rattle.steps.specs.Decide.{writePlan}
+use Rattle.bits.proofs.Tests.{tests}
+use borrow.Author.Needs.{needs}
+use Rattle.steps.proofs.write_plan.Statement.{statement}
+use Rattle.steps.proofs.write_plan.Tie as tie
+
+pub write-plan-spec : {M : Type 1} → statement M
+unfolding writePlan
+write-plan-spec =
+    tie.close
+    (tie.spec
+    (λ c. search needs)  -- enum-known-place
+    (λ c κs. search needs)  -- target-requires
+    (λ c κs. search needs)  -- write-effect-requires
+    (λ c. search needs)  -- enum-told
+    (λ c κs. search needs)  -- test-requires
+    (λ c. search needs)  -- enum-told-2
+    (λ c κs. search needs)  -- test-requires-2
+    (λ c. search (tests, ← c .write-effect .ensures, ← c .before .target .ensures, c .before .before .before .place .given .1))  -- returns
+    (λ c. search (tests, ← c .test .ensures, c .before .enum-told .given .1))  -- returns-2
+    (λ c. search (tests, ← c .test2 .ensures, c .before .enum-told2 .given .1))  -- returns-3
+    )
