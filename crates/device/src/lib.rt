@@ -166,13 +166,15 @@ impl Device {
     fn outcome(self, plan: Plan) -> Outcome
         ensures { λ r. ⌜ r ≡ outcomeOf self plan ⌝ }
     {
-        let b = self.bridge;
         match plan {
             Plan::Refuse(refusal) => Outcome::Refused(refusal),
             Plan::Read { place, width } => Outcome::Value(self.read(place, width)),
             Plan::WriteCore { core: _, effect: _ } => Outcome::Value(0),
             Plan::WriteGate { written: _, on: _ } => Outcome::Value(0),
-            Plan::ReadBridge(register) => Outcome::Value(b.read(register)),
+            Plan::ReadBridge(register) => {
+                let b = self.bridge;
+                Outcome::Value(b.read(register))
+            }
             Plan::WriteBridge(_) => Outcome::Value(0),
             Plan::Input {
                 source: _,
@@ -186,7 +188,6 @@ impl Device {
     fn next(self, plan: Plan) -> Device
         ensures { λ r. ⌜ r ≡ nextOf self plan ⌝ }
     {
-        let b = self.bridge;
         match plan {
             Plan::Refuse(_) => self,
             Plan::Read { place: _, width: _ } => self,
@@ -195,10 +196,19 @@ impl Device {
             }
             Plan::WriteGate { written, on } => self.with_gate(written, on),
             Plan::ReadBridge(_) => self,
-            Plan::WriteBridge(change) => self.with_bridge(b.changed(change)),
-            Plan::Input { source, level } => self.with_bridge(b.input(source, level)),
+            Plan::WriteBridge(change) => {
+                let b = self.bridge;
+                self.with_bridge(b.changed(change))
+            }
+            Plan::Input { source, level } => {
+                let b = self.bridge;
+                self.with_bridge(b.input(source, level))
+            }
             Plan::Window(open) => self.with_open(open),
-            Plan::Reset => Device::with_levels(b.level),
+            Plan::Reset => {
+                let b = self.bridge;
+                Device::with_levels(b.level)
+            }
         }
     }
 
@@ -206,8 +216,8 @@ impl Device {
     fn bridge_lines(self) -> bridge::Lines
         ensures { λ r. ⌜ r ≡ linesOf self ⌝ }
     {
-        let b = self.bridge;
         if self.gate {
+            let b = self.bridge;
             return b.lines();
         }
         bridge::Lines {

@@ -8,6 +8,6 @@ bridge-lines-spec =
     tie.close
     (tie.spec
     (λ c κs. search needs)  -- lines-requires
-    (λ c. search (tests, ← c .lines .ensures, c .before .if1 .taken))  -- returns
+    (λ c. search (tests, ← c .lines .ensures, c .before .before .if1 .taken))  -- returns
     (λ c. search (tests, c .if1 .left))  -- returns-2
     )

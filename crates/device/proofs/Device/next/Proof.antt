@@ -33,8 +33,8 @@ next-spec =
     (λ c. search (tests, ← c .with-core .ensures, ← c .before .applied .ensures, ← c .before .before .core .ensures, c .before .before .before .before .plan .given .1))  -- returns-3
     (λ c. search (tests, ← c .with-gate .ensures, c .before .before .plan2 .given .1))  -- returns-4
     (λ c. search (tests, c .enum-told3 .given .1))  -- returns-5
-    (λ c. search (tests, ← c .with-bridge .ensures, ← c .before .changed .ensures, c .before .before .before .plan3 .given .1))  -- returns-6
-    (λ c. search (tests, ← c .with-bridge2 .ensures, ← c .before .input .ensures, c .before .before .before .plan4 .given .1))  -- returns-7
+    (λ c. search (tests, ← c .with-bridge .ensures, ← c .before .changed .ensures, c .before .before .before .before .plan3 .given .1))  -- returns-6
+    (λ c. search (tests, ← c .with-bridge2 .ensures, ← c .before .input .ensures, c .before .before .before .before .plan4 .given .1))  -- returns-7
     (λ c. search (tests, ← c .with-open .ensures, c .before .before .plan5 .given .1))  -- returns-8
-    (λ c. search (tests, ← c .with-levels .ensures, c .before .enum-told4 .given .1))  -- returns-9
+    (λ c. search (tests, ← c .with-levels .ensures, c .before .before .enum-told4 .given .1))  -- returns-9
     )

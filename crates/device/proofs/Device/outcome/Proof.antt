@@ -24,7 +24,7 @@ outcome-spec =
     (λ c. search (tests, ← c .read .ensures, c .before .before .plan2 .given .1))  -- returns-2
     (λ c. search (tests, c .enum-told .given .1))  -- returns-3
     (λ c. search (tests, c .enum-told2 .given .1))  -- returns-4
-    (λ c. search (tests, ← c .read2 .ensures, c .before .before .plan3 .given .1))  -- returns-5
+    (λ c. search (tests, ← c .read2 .ensures, c .before .before .before .plan3 .given .1))  -- returns-5
     (λ c. search (tests, c .enum-told3 .given .1))  -- returns-6
     (λ c. search (tests, c .enum-told4 .given .1))  -- returns-7
     (λ c. search (tests, c .enum-told5 .given .1))  -- returns-8

@@ -1,0 +1,581 @@
+// The device of 01 in plain C, written by hand, and the mixes of crates/speed run on it: the time to measure the proved device
+// against, and a second opinion on each of its answers. bench/run makes mix.h of crates/speed/src/mix.rt.
+#include <stdbool.h>
+#include <stdint.h>
+#include <stdio.h>
+#include <stdlib.h>
+#include <string.h>
+#include "mix.h"
+
+// State.
+
+struct core {
+    uint32_t status;
+    uint32_t enable;
+    uint64_t mail[4];
+};
+
+// Bit i of each word and byte i of the routes belong to source i.
+struct bridge {
+    uint64_t mask;
+    uint64_t msi;
+    uint64_t edge;
+    uint64_t latch;
+    uint64_t soft;
+    uint64_t level;
+    uint8_t routes[64];
+};
+
+struct device {
+    struct core core[2];
+    struct bridge bridge;
+    bool gate;
+    bool second_open;
+};
+
+// Steps and answers.
+
+enum kind { BUS_READ, BUS_WRITE, PRIVATE_READ, PRIVATE_WRITE, BRIDGE_READ, BRIDGE_WRITE, INPUT, WINDOW_SWITCH, RESET };
+
+enum refusal { ACCEPTED, NO_CORE, NO_REGISTER, CLOSED, BAD_WIDTH, NO_RIGHT, BAD_VALUE, NO_SOURCE, BAD_DISTRIBUTION };
+
+struct step {
+    enum kind kind;
+    uint64_t unit;   // the issuing core, or the register of the bridge
+    uint64_t place;  // the address, the offset or the source
+    uint64_t width;
+    uint64_t value;  // of an input, its level; of the window switch, whether it opens
+};
+
+struct answer {
+    uint64_t value;
+    enum refusal refusal;
+    bool ipi[2];
+    bool bridge[2];
+};
+
+// Registers.
+
+#define FIRST_WINDOW 0x1fe00000
+#define SECOND_WINDOW 0x3ff00000
+#define WINDOW_SIZE 0x1200
+
+enum { GATE = 0x0420, GATE_HIGH = 0x0424, STATUS = 0x1000, ENABLE = 0x1004, SET = 0x1008, CLEAR = 0x100c,
+       MAIL = 0x1020, MAIL_END = 0x1040, IPI_SEND = 0x1040, MAIL_SEND = 0x1048 };
+
+enum bridge_register { INT_MASK, MSI_EN, INTEDGE, SOFT_INT, AUTO_CTRL0, AUTO_CTRL1, INTCLR, INTISR_CHIP0, INTISR_CHIP1, INTIRR,
+                       ROUTE_ENTRY };
+
+static void device_reset(struct device *d)
+{
+    uint64_t level = d->bridge.level;
+
+    memset(d, 0, sizeof *d);
+    d->bridge.mask = UINT64_MAX;
+    d->bridge.level = level;
+    d->second_open = true;
+}
+
+// Messages. Offsets are those of core 0.
+
+static bool is_mail(uint64_t offset)
+{
+    return MAIL <= offset && offset < MAIL_END && offset % 4 == 0;
+}
+
+static bool is_message_register(uint64_t offset)
+{
+    return offset == STATUS || offset == ENABLE || offset == SET || offset == CLEAR || is_mail(offset);
+}
+
+static enum refusal core_read(const struct core *c, uint64_t offset, uint64_t width, uint64_t *value)
+{
+    if (is_mail(offset)) {
+        uint64_t word = c->mail[(offset - MAIL) / 8];
+
+        if (width == 8 && offset % 8 == 0) {
+            *value = word;
+            return ACCEPTED;
+        }
+        if (width != 4)
+            return BAD_WIDTH;
+        *value = offset % 8 == 0 ? (uint32_t)word : word >> 32;
+        return ACCEPTED;
+    }
+    switch (offset) {
+    case STATUS:
+        if (width != 4)
+            return BAD_WIDTH;
+        *value = c->status;
+        return ACCEPTED;
+    case ENABLE:
+        if (width != 4)
+            return BAD_WIDTH;
+        *value = c->enable;
+        return ACCEPTED;
+    case SET:
+    case CLEAR:
+        return width != 4 ? BAD_WIDTH : NO_RIGHT;
+    default:
+        return NO_REGISTER;
+    }
+}
+
+static enum refusal core_write(struct core *c, uint64_t offset, uint64_t width, uint64_t value)
+{
+    if (is_mail(offset)) {
+        uint64_t *word = &c->mail[(offset - MAIL) / 8];
+
+        if (width == 8 && offset % 8 == 0) {
+            *word = value;
+            return ACCEPTED;
+        }
+        if (width != 4)
+            return BAD_WIDTH;
+        if (value > UINT32_MAX)
+            return BAD_VALUE;
+        if (offset % 8 == 0)
+            *word = (*word & ~(uint64_t)UINT32_MAX) | value;
+        else
+            *word = (*word & UINT32_MAX) | value << 32;
+        return ACCEPTED;
+    }
+    if (!is_message_register(offset))
+        return NO_REGISTER;
+    if (width != 4)
+        return BAD_WIDTH;
+    if (offset == STATUS)
+        return NO_RIGHT;
+    if (value > UINT32_MAX)
+        return BAD_VALUE;
+    switch (offset) {
+    case ENABLE:
+        c->enable = value;
+        break;
+    case SET:
+        c->status |= value;
+        break;
+    case CLEAR:
+        c->status &= ~value;
+        break;
+    }
+    return ACCEPTED;
+}
+
+// The sends.
+
+static enum refusal ipi_send(struct device *d, uint64_t width, uint64_t value)
+{
+    uint64_t target = value >> 16 & 0x3ff;
+
+    if (width != 4)
+        return BAD_WIDTH;
+    if (value > UINT32_MAX)
+        return BAD_VALUE;
+    if (target > 1)
+        return NO_CORE;
+    d->core[target].status |= 1u << (value & 31);
+    return ACCEPTED;
+}
+
+// The bytes that each mask keeps as they were.
+static const uint32_t kept_bytes[16] = {
+    0x00000000, 0x000000ff, 0x0000ff00, 0x0000ffff, 0x00ff0000, 0x00ff00ff, 0x00ffff00, 0x00ffffff,
+    0xff000000, 0xff0000ff, 0xff00ff00, 0xff00ffff, 0xffff0000, 0xffff00ff, 0xffffff00, 0xffffffff,
+};
+
+static enum refusal mail_send(struct device *d, uint64_t width, uint64_t value)
+{
+    uint64_t target = value >> 16 & 0x3ff;
+    unsigned half = value >> 2 & 7;
+    unsigned shift = half % 2 * 32;
+    uint64_t written = (uint64_t)(uint32_t)~kept_bytes[value >> 27 & 15] << shift;
+    uint64_t *word;
+
+    if (width != 8)
+        return BAD_WIDTH;
+    if (target > 1)
+        return NO_CORE;
+    word = &d->core[target].mail[half / 2];
+    *word = (*word & ~written) | (value >> 32 << shift & written);
+    return ACCEPTED;
+}
+
+static enum refusal private_read(const struct device *d, const struct step *s, uint64_t *value)
+{
+    if (s->unit > 1)
+        return NO_CORE;
+    if (s->place == IPI_SEND)
+        return s->width != 4 ? BAD_WIDTH : NO_RIGHT;
+    if (s->place == MAIL_SEND)
+        return s->width != 8 ? BAD_WIDTH : NO_RIGHT;
+    return core_read(&d->core[s->unit], s->place, s->width, value);
+}
+
+static enum refusal private_write(struct device *d, const struct step *s)
+{
+    if (s->unit > 1)
+        return NO_CORE;
+    if (s->place == IPI_SEND)
+        return ipi_send(d, s->width, s->value);
+    if (s->place == MAIL_SEND)
+        return mail_send(d, s->width, s->value);
+    return core_write(&d->core[s->unit], s->place, s->width, s->value);
+}
+
+// The bus windows. The gate stands in the first alone.
+
+static enum refusal gate_read(const struct device *d, uint64_t offset, uint64_t width, uint64_t *value)
+{
+    if (width != 4 && (width != 8 || offset != GATE))
+        return BAD_WIDTH;
+    if (width == 8)
+        *value = (uint64_t)d->gate << 48;
+    else if (offset == GATE_HIGH)
+        *value = (uint64_t)d->gate << 16;
+    return ACCEPTED;
+}
+
+static enum refusal gate_write(struct device *d, uint64_t offset, uint64_t width, uint64_t value)
+{
+    if (width != 4 && (width != 8 || offset != GATE))
+        return BAD_WIDTH;
+    if (width == 4 && value > UINT32_MAX)
+        return BAD_VALUE;
+    if (width == 8)
+        d->gate = value >> 48 & 1;
+    else if (offset == GATE_HIGH)
+        d->gate = value >> 16 & 1;
+    return ACCEPTED;
+}
+
+// Gives the offset of an address in its window, and whether that window is the second; an address in neither has an offset past both.
+static uint64_t bus_offset(uint64_t address, bool *second)
+{
+    *second = address - SECOND_WINDOW < WINDOW_SIZE;
+    return address - (*second ? SECOND_WINDOW : FIRST_WINDOW);
+}
+
+static enum refusal bus_read(const struct device *d, const struct step *s, uint64_t *value)
+{
+    bool second;
+    uint64_t offset = bus_offset(s->place, &second);
+
+    if (!second && (offset == GATE || offset == GATE_HIGH))
+        return gate_read(d, offset, s->width, value);
+    if (offset < STATUS || offset >= WINDOW_SIZE)
+        return NO_REGISTER;
+    if (second && !d->second_open)
+        return is_message_register(offset & ~0x100ull) ? CLOSED : NO_REGISTER;
+    return core_read(&d->core[offset >> 8 & 1], offset & ~0x100ull, s->width, value);
+}
+
+static enum refusal bus_write(struct device *d, const struct step *s)
+{
+    bool second;
+    uint64_t offset = bus_offset(s->place, &second);
+
+    if (!second && (offset == GATE || offset == GATE_HIGH))
+        return gate_write(d, offset, s->width, s->value);
+    if (offset < STATUS || offset >= WINDOW_SIZE)
+        return NO_REGISTER;
+    if (second && !d->second_open)
+        return is_message_register(offset & ~0x100ull) ? CLOSED : NO_REGISTER;
+    return core_write(&d->core[offset >> 8 & 1], offset & ~0x100ull, s->width, s->value);
+}
+
+// The bridge.
+
+static uint64_t bridge_requests(const struct bridge *b)
+{
+    return (b->edge & b->latch) | (~b->edge & (b->level | b->soft));
+}
+
+static uint64_t bridge_pending(const struct bridge *b)
+{
+    return bridge_requests(b) & ~b->mask & ~b->msi;
+}
+
+static uint64_t bridge_in_service(const struct bridge *b, unsigned k)
+{
+    uint64_t word = 0;
+
+    for (uint64_t p = bridge_pending(b); p != 0; p &= p - 1)
+        if (b->routes[__builtin_ctzll(p)] >> k & 1)
+            word |= p & -p;
+    return word;
+}
+
+// The outputs that some pending source is routed to, a bit for each.
+static unsigned bridge_outputs(const struct bridge *b)
+{
+    unsigned outputs = 0;
+
+    for (uint64_t p = bridge_pending(b); p != 0 && outputs != 3; p &= p - 1)
+        outputs |= b->routes[__builtin_ctzll(p)];
+    return outputs;
+}
+
+// New input levels and soft bits: in edge mode a source whose drive rises is latched.
+static void bridge_drive(struct bridge *b, uint64_t level, uint64_t soft)
+{
+    b->latch |= (level | soft) & ~(b->level | b->soft) & b->edge;
+    b->level = level;
+    b->soft = soft;
+}
+
+static enum refusal bridge_read(const struct bridge *b, uint64_t reg, uint64_t source, uint64_t *value)
+{
+    switch (reg) {
+    case INT_MASK:
+        *value = b->mask;
+        break;
+    case MSI_EN:
+        *value = b->msi;
+        break;
+    case INTEDGE:
+        *value = b->edge;
+        break;
+    case SOFT_INT:
+        *value = b->soft;
+        break;
+    case AUTO_CTRL0:
+    case AUTO_CTRL1:
+        break;
+    case INTCLR:
+        return NO_RIGHT;
+    case INTISR_CHIP0:
+    case INTISR_CHIP1:
+        *value = bridge_in_service(b, reg - INTISR_CHIP0);
+        break;
+    case INTIRR:
+        *value = bridge_requests(b);
+        break;
+    default:
+        if (source > 63)
+            return NO_SOURCE;
+        *value = b->routes[source];
+        break;
+    }
+    return ACCEPTED;
+}
+
+static enum refusal bridge_write(struct bridge *b, uint64_t reg, uint64_t source, uint64_t value)
+{
+    switch (reg) {
+    case INT_MASK:
+        b->mask = value;
+        break;
+    case MSI_EN:
+        b->msi = value;
+        break;
+    case INTEDGE:
+        b->edge = value;
+        break;
+    case SOFT_INT:
+        bridge_drive(b, b->level, value);
+        break;
+    case AUTO_CTRL0:
+    case AUTO_CTRL1:
+        if (value != 0)
+            return BAD_DISTRIBUTION;
+        break;
+    case INTCLR:
+        b->latch &= ~value;
+        break;
+    case INTISR_CHIP0:
+    case INTISR_CHIP1:
+    case INTIRR:
+        return NO_RIGHT;
+    default:
+        if (source > 63)
+            return NO_SOURCE;
+        if (value > 255)
+            return BAD_VALUE;
+        b->routes[source] = value & 3;
+        break;
+    }
+    return ACCEPTED;
+}
+
+static enum refusal input_change(struct bridge *b, uint64_t source, bool level)
+{
+    uint64_t bit;
+
+    if (source > 63)
+        return NO_SOURCE;
+    bit = 1ull << source;
+    bridge_drive(b, level ? b->level | bit : b->level & ~bit, b->soft);
+    return ACCEPTED;
+}
+
+// A step.
+
+static enum refusal act(struct device *d, const struct step *s, uint64_t *value)
+{
+    switch (s->kind) {
+    case BUS_READ:
+        return bus_read(d, s, value);
+    case BUS_WRITE:
+        return bus_write(d, s);
+    case PRIVATE_READ:
+        return private_read(d, s, value);
+    case PRIVATE_WRITE:
+        return private_write(d, s);
+    case BRIDGE_READ:
+        return bridge_read(&d->bridge, s->unit, s->place, value);
+    case BRIDGE_WRITE:
+        return bridge_write(&d->bridge, s->unit, s->place, s->value);
+    case INPUT:
+        return input_change(&d->bridge, s->place, s->value);
+    case WINDOW_SWITCH:
+        d->second_open = s->value;
+        return ACCEPTED;
+    default:
+        device_reset(d);
+        return ACCEPTED;
+    }
+}
+
+static void device_step(struct device *d, const struct step *s, struct answer *a)
+{
+    unsigned outputs;
+
+    a->value = 0;
+    a->refusal = act(d, s, &a->value);
+    outputs = d->gate ? bridge_outputs(&d->bridge) : 0;
+    a->ipi[0] = (d->core[0].status & d->core[0].enable) != 0;
+    a->ipi[1] = (d->core[1].status & d->core[1].enable) != 0;
+    a->bridge[0] = outputs & 1;
+    a->bridge[1] = outputs >> 1;
+}
+
+// The mixes (mix.h says what a row is), and the checksum of a run.
+
+static uint64_t drawn(uint64_t x)
+{
+    x ^= x << 13;
+    x ^= x >> 7;
+    x ^= x << 17;
+    return x;
+}
+
+static struct step step_of(const uint64_t row[7], uint64_t x)
+{
+    struct step s = {
+        .kind = row[0],
+        .unit = row[1],
+        .place = row[2] | (x >> 32 & row[3]),
+        .width = row[4],
+        .value = ((x ^ x << 32) & row[5]) | row[6],
+    };
+
+    if (s.kind == RESET && s.value != 0)
+        s.kind = WINDOW_SWITCH;
+    return s;
+}
+
+// The checksum with an answer: the value or the refusal number, and the four lines.
+static uint64_t answer_folded(uint64_t sum, const struct answer *a)
+{
+    uint64_t lines = a->ipi[0] | a->ipi[1] << 1 | a->bridge[0] << 2 | a->bridge[1] << 3;
+
+    return (sum << 7 | sum >> 57) ^ a->value ^ (uint64_t)a->refusal << 56 ^ lines << 60;
+}
+
+// The checksum with a word of the end state.
+static uint64_t folded(uint64_t sum, uint64_t word)
+{
+    return drawn(sum ^ word);
+}
+
+static uint64_t state_folded(uint64_t sum, const struct device *d)
+{
+    const struct bridge *b = &d->bridge;
+
+    for (int c = 0; c < 2; c++) {
+        sum = folded(sum, d->core[c].status);
+        sum = folded(sum, d->core[c].enable);
+        for (int i = 0; i < 4; i++)
+            sum = folded(sum, d->core[c].mail[i]);
+    }
+    sum = folded(sum, b->mask);
+    sum = folded(sum, b->msi);
+    sum = folded(sum, b->edge);
+    sum = folded(sum, b->latch);
+    sum = folded(sum, b->soft);
+    sum = folded(sum, b->level);
+    for (int i = 0; i < 64; i++)
+        sum = folded(sum, b->routes[i]);
+    return folded(sum, d->gate | d->second_open << 1);
+}
+
+#ifdef COUNTS
+// What a mix does to the device, for gcc -DCOUNTS: totals over the steps of a run.
+static uint64_t refused[9], lines[4], opened, pending, visited;
+
+static void count(const struct device *d, const struct answer *a)
+{
+    unsigned outputs = 0;
+
+    refused[a->refusal]++;
+    for (int k = 0; k < 2; k++) {
+        lines[k] += a->ipi[k];
+        lines[2 + k] += a->bridge[k];
+    }
+    opened += d->gate;
+    pending += __builtin_popcountll(bridge_pending(&d->bridge));
+    for (uint64_t p = d->gate ? bridge_pending(&d->bridge) : 0; p != 0 && outputs != 3; p &= p - 1, visited++)
+        outputs |= d->bridge.routes[__builtin_ctzll(p)];
+}
+
+static void counts_print(double n)
+{
+    printf("  refused %.4f:", 1 - refused[0] / n);
+    for (int i = 1; i < 9; i++)
+        printf(" %d %.4f", i, refused[i] / n);
+    printf("\n  lines high %.3f %.3f %.3f %.3f, gate open %.3f, sources pending %.2f, routes looked at %.2f\n", lines[0] / n,
+           lines[1] / n, lines[2] / n, lines[3] / n, opened / n, pending / n, visited / n);
+    memset(refused, 0, sizeof refused);
+    memset(lines, 0, sizeof lines);
+    opened = pending = visited = 0;
+}
+#endif
+
+static uint64_t run(const uint64_t rows[64][7], uint64_t n)
+{
+    struct device d = { 0 };
+    struct answer a;
+    uint64_t x = SEED;
+    uint64_t sum = 0;
+
+    device_reset(&d);
+    for (uint64_t i = 0; i < n; i++) {
+        x = drawn(x);
+        struct step s = step_of(rows[x >> 58], x);
+        device_step(&d, &s, &a);
+        sum = answer_folded(sum, &a);
+#ifdef COUNTS
+        count(&d, &a);
+#endif
+    }
+    return state_folded(sum, &d);
+}
+
+int main(int argc, char **argv)
+{
+    static const struct { const char *name; const uint64_t (*rows)[7]; } mixes[3] = {
+        { "messages", MESSAGES }, { "sparse", SPARSE }, { "dense", DENSE },
+    };
+    uint64_t n = argc > 1 ? strtoull(argv[1], NULL, 10) : 0;
+
+    for (int i = 0; i < 3; i++) {
+        if (argc > 2 && strcmp(argv[2], mixes[i].name) != 0)
+            continue;
+        printf("%s %llu checksum 0x%016llx\n", mixes[i].name, (unsigned long long)n, (unsigned long long)run(mixes[i].rows, n));
+#ifdef COUNTS
+        counts_print(n);
+#endif
+    }
+    return 0;
+}

@@ -1,0 +1,55 @@
+// Which clash of two writes an example names: the number of a cell, and the bits.
+use crate::show;
+use reorder::Cell;
+use reorder::Clash;
+
+// No cell, core 0's Status, and any other.
+pub const FREE: u64 = 0;
+
+pub const STATUS: u64 = 1;
+
+const OTHER: u64 = 2;
+
+fn message_number(cell: ipi::Cell) -> u64 {
+    match cell {
+        ipi::Cell::Status => STATUS,
+        ipi::Cell::Enable => OTHER,
+        ipi::Cell::MailBox(_) => OTHER,
+    }
+}
+
+fn cell_number(cell: Cell) -> u64 {
+    match cell {
+        Cell::Core0(message) => message_number(message),
+        Cell::Core1(_) => OTHER,
+        Cell::Bridge(_) => OTHER,
+        Cell::Gate => OTHER,
+    }
+}
+
+pub fn cell_of(clash: Clash) -> u64 {
+    match clash {
+        Clash::Free => FREE,
+        Clash::On { cell, bits: _ } => cell_number(cell),
+    }
+}
+
+pub fn bits_of(clash: Clash) -> u64 {
+    match clash {
+        Clash::Free => 0,
+        Clash::On { cell: _, bits } => bits,
+    }
+}
+
+pub fn show(cell: u64, bits: u64) {
+    if cell == FREE {
+        show::text(b"free");
+        return;
+    }
+    if cell == STATUS {
+        show::text(b"clash in core0.Status ");
+    } else {
+        show::text(b"clash in another cell ");
+    }
+    show::hex(bits);
+}

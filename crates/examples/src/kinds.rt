@@ -1,0 +1,57 @@
+// A step of each kind from its numbers, so that an example takes a line a step.
+use bridge::Register;
+use steps::Step;
+
+pub fn bus_read(address: u64, width: u64) -> Step {
+    Step::BusRead {
+        address: address,
+        width: width,
+    }
+}
+
+pub fn bus_write(address: u64, width: u64, value: u64) -> Step {
+    Step::BusWrite {
+        address: address,
+        width: width,
+        value: value,
+    }
+}
+
+pub fn private_read(core: u64, offset: u64, width: u64) -> Step {
+    Step::PrivateRead {
+        core: core,
+        offset: offset,
+        width: width,
+    }
+}
+
+pub fn private_write(core: u64, offset: u64, width: u64, value: u64) -> Step {
+    Step::PrivateWrite {
+        core: core,
+        offset: offset,
+        width: width,
+        value: value,
+    }
+}
+
+pub fn bridge_read(register: Register) -> Step {
+    Step::BridgeRead { register: register }
+}
+
+pub fn bridge_write(register: Register, value: u64) -> Step {
+    Step::BridgeWrite {
+        register: register,
+        value: value,
+    }
+}
+
+pub fn input(source: u64, level: bool) -> Step {
+    Step::Input {
+        source: source,
+        level: level,
+    }
+}
+
+pub fn window(opened: bool) -> Step {
+    Step::Window { open: opened }
+}

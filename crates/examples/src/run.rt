@@ -1,0 +1,204 @@
+// A run of the examples: the device that the steps go to, and how many comparisons passed and failed.
+use crate::cells::same_cells;
+use crate::cells::same_reads;
+use crate::clash;
+use crate::show;
+use device::Answer;
+use device::Device;
+use steps::Step;
+
+// What 01 says of the outcome of a step.
+enum Expected {
+    Refused(u64),
+    Value(u64),
+    // Accepted, and no read.
+    Accepted,
+    // The same, and every read gives what it gave before.
+    SameReads,
+}
+
+// What a step did: its answer by 01's numbers, and whether the cells, or all that can be read of them, are as before.
+struct Got {
+    refusal: u64,
+    value: u64,
+    lines: u64,
+    same_cells: bool,
+    same_reads: bool,
+}
+
+pub struct Run {
+    device: Device,
+    passed: u64,
+    failed: u64,
+}
+
+fn weighed(line: bool, weight: u64) -> u64 {
+    if line { weight } else { 0 }
+}
+
+// The four lines as bits of a number, the IPI line of core 0 highest.
+fn lines_of(a: Answer) -> u64 {
+    weighed(a.ipi0, 8) | weighed(a.ipi1, 4) | weighed(a.bridge0, 2) | weighed(a.bridge1, 1)
+}
+
+fn got_of(a: Answer, before: Device, after: Device) -> Got {
+    let outcome = a.outcome;
+    Got {
+        refusal: outcome.number(),
+        value: outcome.data(),
+        lines: lines_of(a),
+        same_cells: same_cells(before, after),
+        same_reads: same_reads(before, after),
+    }
+}
+
+// A refused step and a read change no cell.
+fn meets(got: Got, expected: Expected) -> bool {
+    match expected {
+        Expected::Refused(number) => got.refusal == number && got.value == 0 && got.same_cells,
+        Expected::Value(value) => got.refusal == 0 && got.value == value && got.same_cells,
+        Expected::Accepted => got.refusal == 0 && got.value == 0,
+        Expected::SameReads => got.refusal == 0 && got.value == 0 && got.same_reads,
+    }
+}
+
+fn show_expected(expected: Expected, lines: u64) {
+    match expected {
+        Expected::Refused(number) => show::refused(number),
+        Expected::Value(value) => show::value(value),
+        Expected::Accepted => show::text(b"accepted"),
+        Expected::SameReads => show::text(b"accepted, every read as before"),
+    }
+    if lines != 0 {
+        show::lines(lines);
+    }
+}
+
+fn show_got(got: Got) {
+    if got.refusal == 0 {
+        show::value(got.value);
+    } else {
+        show::refused(got.refusal);
+    }
+    show::lines(got.lines);
+    if !got.same_cells {
+        show::text(b", cells changed");
+    }
+    if !got.same_reads {
+        show::text(b", reads changed");
+    }
+}
+
+impl Run {
+    pub fn start() -> Run {
+        Run {
+            device: Device::fresh(),
+            passed: 0,
+            failed: 0,
+        }
+    }
+
+    fn with_device(mut self, d: Device) -> Run {
+        self.device = d;
+        self
+    }
+
+    pub fn fresh(self) -> Run {
+        self.with_device(Device::fresh())
+    }
+
+    // A step on the way to an example.
+    pub fn after(self, step: Step) -> Run {
+        let d = self.device;
+        self.with_device(d.step(step).device)
+    }
+
+    fn counted(mut self, passed: bool) -> Run {
+        if passed {
+            self.passed = std::num::wrapping_add_u64(self.passed, 1);
+            return self;
+        }
+        self.failed = std::num::wrapping_add_u64(self.failed, 1);
+        self
+    }
+
+    // A step: its outcome, and the lines after it.
+    fn check(self, name: &[u8], step: Step, expected: Expected, lines: u64) -> Run {
+        let before = self.device;
+        let stepped = before.step(step);
+        let answer = stepped.answer;
+        let after = stepped.device;
+        let got = got_of(answer, before, after);
+        let passed = got.lines == lines && meets(got, expected);
+        show::name(name);
+        show_expected(expected, lines);
+        show::verdict(passed);
+        if !passed {
+            show_got(got);
+        }
+        show::text(b"\n");
+        self.with_device(after).counted(passed)
+    }
+
+    // In these four all lines are low after the step.
+    pub fn refuses(self, name: &[u8], step: Step, number: u64) -> Run {
+        self.check(name, step, Expected::Refused(number), 0)
+    }
+
+    pub fn reads(self, name: &[u8], step: Step, value: u64) -> Run {
+        self.check(name, step, Expected::Value(value), 0)
+    }
+
+    pub fn accepts(self, name: &[u8], step: Step) -> Run {
+        self.check(name, step, Expected::Accepted, 0)
+    }
+
+    pub fn keeps_reads(self, name: &[u8], step: Step) -> Run {
+        self.check(name, step, Expected::SameReads, 0)
+    }
+
+    pub fn raises(self, name: &[u8], step: Step, lines: u64) -> Run {
+        self.check(name, step, Expected::Accepted, lines)
+    }
+
+    // Whether two writes end in the same cells in both orders.
+    pub fn orders(self, name: &[u8], a: Step, b: Step, agree: bool) -> Run {
+        let d = self.device;
+        let one = d.step(a).device.step(b).device;
+        let other = d.step(b).device.step(a).device;
+        let got = same_cells(one, other);
+        let passed = got == agree;
+        show::name(name);
+        show::agreement(agree);
+        show::verdict(passed);
+        if !passed {
+            show::agreement(got);
+        }
+        show::text(b"\n");
+        self.counted(passed)
+    }
+
+    // The cell in which two writes clash, and the bits.
+    pub fn clashes(self, name: &[u8], a: Step, b: Step, cell: u64, bits: u64) -> Run {
+        let d = self.device;
+        let got = reorder::find_clash(d.second_open, a, b);
+        let got_cell = clash::cell_of(got);
+        let got_bits = clash::bits_of(got);
+        let passed = got_cell == cell && got_bits == bits;
+        show::name(name);
+        clash::show(cell, bits);
+        show::verdict(passed);
+        if !passed {
+            clash::show(got_cell, got_bits);
+        }
+        show::text(b"\n");
+        self.counted(passed)
+    }
+
+    pub fn show_totals(self) {
+        show::decimal(self.passed);
+        show::text(b" passed, ");
+        show::decimal(self.failed);
+        show::text(b" failed\n");
+    }
+}

@@ -1,0 +1,4 @@
+pub mod Numbers
+pub mod Printed
+pub mod RoundTrip
+pub mod Examples

@@ -1,0 +1,242 @@
+// Runs many steps of a mix on one device and prints a checksum of every answer and of the end state: `speed N` every mix, `speed N MIX` one.
+// bench/baseline.c does the same in plain C, and bench/run compares their checksums and times.
+mod mix;
+
+use access::refusal_number;
+use bridge::Bridge;
+use bridge::Register;
+use device::Answer;
+use device::Device;
+use device::Outcome;
+use ipi::Core;
+use libc::STDOUT_FILENO;
+use steps::Step;
+
+// The next draw of the xorshift.
+fn drawn(x: u64) -> u64 {
+    let a = x ^ (x << 13);
+    let b = a ^ (a >> 7);
+    b ^ (b << 17)
+}
+
+// A register of the bridge by its number in a row.
+fn register_of(number: u64, source: u64) -> Register {
+    match number {
+        0 => Register::IntMask,
+        1 => Register::MsiEn,
+        2 => Register::IntEdge,
+        3 => Register::SoftInt,
+        4 => Register::AutoCtrl0,
+        5 => Register::AutoCtrl1,
+        6 => Register::IntClr,
+        7 => Register::IntIsrChip0,
+        8 => Register::IntIsrChip1,
+        9 => Register::IntIrr,
+        _ => Register::RouteEntry(source),
+    }
+}
+
+fn access_of(kind: u64, unit: u64, place: u64, width: u64, value: u64) -> Step {
+    match kind {
+        0 => Step::BusRead {
+            address: place,
+            width: width,
+        },
+        1 => Step::BusWrite {
+            address: place,
+            width: width,
+            value: value,
+        },
+        2 => Step::PrivateRead {
+            core: unit,
+            offset: place,
+            width: width,
+        },
+        _ => Step::PrivateWrite {
+            core: unit,
+            offset: place,
+            width: width,
+            value: value,
+        },
+    }
+}
+
+fn step_of(kind: u64, unit: u64, place: u64, width: u64, value: u64) -> Step {
+    match kind {
+        4 => Step::BridgeRead {
+            register: register_of(unit, place),
+        },
+        5 => Step::BridgeWrite {
+            register: register_of(unit, place),
+            value: value,
+        },
+        6 => Step::Input {
+            source: place,
+            level: value != 0,
+        },
+        7 => Step::Window { open: value != 0 },
+        8 => {
+            if value == 0 {
+                Step::Reset
+            } else {
+                Step::Window { open: true }
+            }
+        }
+        _ => access_of(kind, unit, place, width, value),
+    }
+}
+
+// The step of a row (see mix.rt) at a draw.
+fn row_step(row: [u64; 7], x: u64) -> Step {
+    let place = row[2] | ((x >> 32) & row[3]);
+    let value = ((x ^ (x << 32)) & row[5]) | row[6];
+    step_of(row[0], row[1], place, row[4], value)
+}
+
+fn lines(a: Answer) -> u64 {
+    (a.ipi0 as u64) | ((a.ipi1 as u64) << 1) | ((a.bridge0 as u64) << 2) | ((a.bridge1 as u64) << 3)
+}
+
+// The checksum with an answer: the value or the refusal number, and the four lines.
+fn answer_folded(sum: u64, a: Answer) -> u64 {
+    let outcome = a.outcome;
+    let word = match outcome {
+        Outcome::Value(value) => value,
+        Outcome::Refused(refusal) => refusal_number(refusal) << 56,
+    };
+    ((sum << 7) | (sum >> 57)) ^ word ^ (lines(a) << 60)
+}
+
+// The checksum with a word of the end state. Its many operations keep the compiler from unrolling the loop over the routes: unrolled, each
+// of the 64 bytes is carried through the loop of the steps as a value of its own, which made a step half as long again.
+fn folded(sum: u64, word: u64) -> u64 {
+    drawn(sum ^ word)
+}
+
+fn core_folded(sum: u64, core: Core) -> u64 {
+    let mail = core.mail;
+    let cells = folded(folded(sum, core.status as u64), core.enable as u64);
+    let low = folded(folded(cells, mail[0]), mail[1]);
+    folded(folded(low, mail[2]), mail[3])
+}
+
+fn wide(byte: u8) -> u64 {
+    byte as u64
+}
+
+fn routes_folded(sum: u64, routes: [u8; 64]) -> u64 {
+    let mut s = sum;
+    for i in 0..64 {
+        s = folded(s, wide(routes[i]));
+    }
+    s
+}
+
+fn bridge_folded(sum: u64, bridge: Bridge) -> u64 {
+    let routes = bridge.routes;
+    let enables = folded(folded(sum, bridge.mask), bridge.msi);
+    let modes = folded(folded(enables, bridge.edge), bridge.latch);
+    let drives = folded(folded(modes, bridge.soft), bridge.level);
+    routes_folded(drives, routes)
+}
+
+fn device_folded(sum: u64, d: Device) -> u64 {
+    let core0 = d.core0;
+    let core1 = d.core1;
+    let bridge = d.bridge;
+    let cores = core_folded(core_folded(sum, core0), core1);
+    folded(
+        bridge_folded(cores, bridge),
+        (d.gate as u64) | ((d.second_open as u64) << 1),
+    )
+}
+
+// The checksum of n steps of a mix from a fresh device.
+fn run(rows: &[[u64; 7]; 64], n: u64) -> u64 {
+    let mut d = Device::fresh();
+    let mut x = mix::SEED;
+    let mut sum: u64 = 0;
+    for _ in 0..n {
+        x = drawn(x);
+        let row = rows[(x >> 58) as usize];
+        let stepped = d.step(row_step(row, x));
+        let answer = stepped.answer;
+        let device = stepped.device;
+        sum = answer_folded(sum, answer);
+        d = device;
+    }
+    device_folded(sum, d)
+}
+
+fn print_run(name: &[u8], rows: &[[u64; 7]; 64], n: u64) {
+    io::write_all(STDOUT_FILENO, name);
+    io::write_all(STDOUT_FILENO, b" ");
+    io::print_decimal(STDOUT_FILENO, n);
+    io::write_all(STDOUT_FILENO, b" checksum 0x");
+    io::print_hex(STDOUT_FILENO, run(rows, n), 16);
+    io::write_all(STDOUT_FILENO, b"\n");
+}
+
+// A number with one more decimal digit; a byte that is no digit, and one that could take it past a u64, is left out.
+fn with_digit(n: u64, byte: u8) -> u64 {
+    if n > 1000000000000000000 {
+        return n;
+    }
+    if byte < b'0' {
+        return n;
+    }
+    if byte > b'9' {
+        return n;
+    }
+    n * 10 + (byte - b'0') as u64
+}
+
+fn number(text: &[u8]) -> u64 {
+    let mut n: u64 = 0;
+    for i in 0..text.len() {
+        n = with_digit(n, text[i]);
+    }
+    n
+}
+
+// The first byte of the argument that names a mix; 0 where there is none.
+fn initial() -> u8 {
+    let mut name = [0u8; 16];
+    let n = os::arg(2, &mut name);
+    if n == 0 {
+        return 0;
+    }
+    name[0]
+}
+
+// A function for each mix: the check takes a table as one statement a row, and is slow where one function has many.
+fn messages(n: u64) {
+    let rows = mix::MESSAGES;
+    print_run(b"messages", &rows, n);
+}
+
+fn sparse(n: u64) {
+    let rows = mix::SPARSE;
+    print_run(b"sparse", &rows, n);
+}
+
+fn dense(n: u64) {
+    let rows = mix::DENSE;
+    print_run(b"dense", &rows, n);
+}
+
+fn main() {
+    let mut digits = io::buffer();
+    let length = os::arg(1, &mut digits);
+    let n = number(&digits[..length]);
+    let only = initial();
+    if only == 0 || only == b'm' {
+        messages(n);
+    }
+    if only == 0 || only == b's' {
+        sparse(n);
+    }
+    if only == 0 || only == b'd' {
+        dense(n);
+    }
+}
