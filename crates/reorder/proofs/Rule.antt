@@ -21,7 +21,7 @@ use Rattle.steps.specs.Decide.{decideOf}
 use Rattle.device.specs.Step.{nextOf, outcomeOf, stepOf}
 use Rattle.reorder.specs.declared.Cell.{Cell}
 use Rattle.reorder.specs.declared.Cell.the-variants.{Core0, Core1}
-use Rattle.reorder.specs.Order.{AcceptanceStays, Listed, OrderRule, Whole, effectIn, effectOf, listed, next}
+use Rattle.reorder.specs.Order.{AcceptanceStays, LinesAgree, Listed, OrderRule, Whole, effectIn, effectOf, listed, next}
 use Rattle.reorder.proofs.Cells.{Rest, apply, device-block, device-determined, on, rest, rest-on}
 
 -- ---- a listed plan is its effect
@@ -88,6 +88,9 @@ order-rule-holds d h ws all =
     ws
     all
     (λ s t g k e. device-determined s t (g .whole) (k .whole) (g .stays ∙ sym (k .stays)) e)
+
+pub lines-agree : LinesAgree
+lines-agree d h ws all free ps qs p q o = ap (λ (e : Device). answeredOf e o) (order-rule-holds d h ws all .1 free ps qs p q)
 
 -- ---- no listed write alters another's acceptance
 

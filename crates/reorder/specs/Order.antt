@@ -9,7 +9,7 @@ use mathlib.Core.Option.{Option, none, some}
 use mathlib.Core.List.{List}
 use lib.Dec.{eqb}
 use Rattle.bits.specs.Bits.{digit}
-use Rattle.order.specs.Order.{All, ConflictFree, OneEnd}
+use Rattle.order.specs.Order.{All, ConflictFree, OneEnd, Order, run}
 use Rattle.order.specs.Cells as order
 use Rattle.ipi.specs.Cells as ipi
 use Rattle.bridge.specs.declared.Change.the-variants.{Plain, Modes, Soft, Clear, Nothing}
@@ -22,6 +22,8 @@ use Rattle.steps.specs.declared.Step.the-variants as step
 use Rattle.steps.specs.declared.Plan.{Plan}
 use Rattle.steps.specs.declared.Plan.the-variants.{Refuse, Read, WriteCore, WriteGate, ReadBridge, WriteBridge, Input, Window, Reset}
 use Rattle.steps.specs.Decide.{decideOf}
+use Rattle.device.specs.declared.Outcome.{Outcome}
+use Rattle.device.specs.Device.{answeredOf}
 use Rattle.device.specs.Step.{stepOf}
 
 -- ---- the cells: of core 0, of core 1, of the bridge (masks, message enables, routes), and the gate
@@ -135,3 +137,9 @@ OrderRule = (d : Device) → Whole d → (ws : List Step) → All (Listed d) ws 
 abbrev pub AcceptanceStays : Type 0
 AcceptanceStays =
     (d : Device) (s t : Step) → Listed d s → Listed d t → stepOf (next t d) s .answer .outcome ≡ stepOf d s .answer .outcome
+
+-- where no two of them conflict, every two orders also end with the same four lines
+abbrev pub LinesAgree : Type 0
+LinesAgree =
+    (d : Device) → Whole d → (ws : List Step) → All (Listed d) ws → ConflictFree (gives d) ws
+    → (ps qs : List Step) → Order ws ps → Order ws qs → (o : Outcome) → answeredOf (run next ps d) o ≡ answeredOf (run next qs d) o
