@@ -1,4 +1,2 @@
 pub mod Device
 pub mod Step
-pub mod Promises
-pub mod Examples

@@ -10,14 +10,14 @@ use Rattle.ipi.specs.declared.Core.{Core}
 use Rattle.ipi.specs.Core as ipi
 use Rattle.bridge.specs.declared.Bridge.{Bridge}
 use Rattle.bridge.specs.Sources as bridge
 use Rattle.device.specs.declared.Device.{Device}
 use Rattle.device.specs.declared.Outcome.the-variants.{Value, Refused}
 use Rattle.steps.specs.declared.Plan.{Plan}
 use Rattle.steps.specs.declared.Plan.the-variants.{Refuse, Read, WriteCore, WriteGate, ReadBridge, WriteBridge, Input, Window, Reset}
 use Rattle.device.specs.Device.{answeredOf, bridgeLine}
 use Rattle.steps.specs.Decide.{decideOf}
 use Rattle.device.specs.Step.{nextOf, outcomeData, outcomeOf, stepOf}
-use Rattle.device.specs.Promises.{BridgeLines, Cause, IpiLines, RefusedSteps, Separation, Vector}
+use Rattle.promises.specs.Promises.{BridgeLines, Cause, IpiLines, RefusedSteps, Separation, Vector}
 
 -- ---- refused steps
 
