@@ -1,6 +1,6 @@
 -- What a step does, from the step and the window switch alone (01, "Kinds of step" and "Refusal numbers"): the first refusal that
 -- applies, or a plan.
---   busPlan, privatePlan, bridgePlan, inputPlan   01's lists of refusals, each line with its number
+--   busPlan, privatePlan, bridgePlan, inputPlan   01's lists of refusals, their numbers in the comment above each
 --   writePlan, accessPlan                         what an accepted bus or private access does
 --   decideOf                                      the plan of a step
 use Prim.Native.Nat.{ℕ}
