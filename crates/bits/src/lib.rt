@@ -1,6 +1,6 @@
 // Words and bytes: masked writes, single bits, byte masks, one bit of many bytes, the edge-latch rule.
 ghost use mathlib.Core.Path.{_≡_};
-ghost use mathlib.Core.Bool.{false, _&&_};
+ghost use mathlib.Core.Bool.{cond, false, _&&_};
 ghost use Prim.Native.Nat.{_/_};
 ghost use Rattle.bits.specs.Bits as specs;
 ghost use Rattle.bits.specs.Bytes as bytes;
@@ -36,6 +36,20 @@ pub fn put(w: u64, i: u64, b: bool) -> u64
     } else {
         w
     }
+}
+
+// a where `first` is true, and b elsewhere. Both stand ready, so that the compiler makes no jump of it.
+pub fn choose(first: bool, a: u64, b: u64) -> u64
+    ensures { λ r. ⌜ r ≡ cond first a b ⌝ }
+{
+    if first { a } else { b }
+}
+
+// The same of words of 32 bits.
+pub fn choose32(first: bool, word: u32, other: u32) -> u32
+    ensures { λ r. ⌜ r ≡ cond first word other ⌝ }
+{
+    if first { word } else { other }
 }
 
 // Some bit is set in both words.

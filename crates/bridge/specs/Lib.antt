@@ -1,4 +1,1 @@
-pub mod Sources
-pub mod Changes
 pub mod Registers
-pub mod Cells

@@ -1,11 +1,10 @@
 -- The bridge registers by name (01, "Bridge registers" and "Refusal numbers"; table 8-2 of the manual), in 01's order.
---   rowOf      rights, and what a write may hold      readOf     what a read gives
---   verdictOf  the first refusal that applies         changeOf   what a write does
+--   registerAt   by number, in 01's order               rowOf      rights, and what a write may hold
+--   verdictOf    the first refusal that applies         changeOf   what a write does
 use Prim.Native.Nat.{ℕ, _^_}
 use mathlib.Core.Bool.{Bool, true, not}
+use mathlib.Core.List.{List, [], _∷_}
 use lib.Dec.{eqb, leb, ltb}
-use lib.ListN.{getD}
-use Rattle.bits.specs.Bits.{bit, word}
 use Rattle.access.specs.declared.Rights.{Rights}
 use Rattle.access.specs.declared.Rights.the-variants.{Read, Write, Both}
 use Rattle.access.specs.declared.Refusal.the-variants.{Source, Right, Value, Distribution}
@@ -13,7 +12,7 @@ use Rattle.access.specs.declared.Verdict.{Verdict}
 use Rattle.access.specs.declared.Verdict.the-variants.{Accepted}
 use Rattle.access.specs.Refusal.{refuseIf}
 use Rattle.access.specs.Access.{permitted}
-use Rattle.bridge.specs.declared.Bridge.{Bridge}
+use Rattle.access.specs.Table as table
 use Rattle.bridge.specs.declared.Register.{Register}
 use Rattle.bridge.specs.declared.Register.the-variants.{IntMask, MsiEn, IntEdge, SoftInt, AutoCtrl0, AutoCtrl1, IntClr, IntIsrChip0, IntIsrChip1, IntIrr, RouteEntry}
 use Rattle.bridge.specs.declared.Holds.{Holds}
@@ -23,7 +22,24 @@ use Rattle.bridge.specs.declared.Cell.{Cell}
 use Rattle.bridge.specs.declared.Cell.the-variants.{Mask, Msi, Route}
 use Rattle.bridge.specs.declared.Change.{Change}
 use Rattle.bridge.specs.declared.Change.the-variants.{Plain, Modes, Soft, Clear, Nothing}
-use Rattle.bridge.specs.Sources.{requestWord, inServiceWord}
+
+-- by its number, from 0; from 10 on the route of a source
+unfoldable pub registers : List (table.Row Register)
+registers =
+    table.row 0 IntMask
+    ∷ table.row 1 MsiEn
+    ∷ table.row 2 IntEdge
+    ∷ table.row 3 SoftInt
+    ∷ table.row 4 AutoCtrl0
+    ∷ table.row 5 AutoCtrl1
+    ∷ table.row 6 IntClr
+    ∷ table.row 7 IntIsrChip0
+    ∷ table.row 8 IntIsrChip1
+    ∷ table.row 9 IntIrr
+    ∷ []
+
+unfoldable pub registerAt : ℕ → ℕ → Register
+registerAt number source = table.lookup (RouteEntry source) registers number
 
 abbrev row : ℕ → Rights → Holds → Row
 row source rights holds = record { source = source; rights = rights; holds = holds }
@@ -62,19 +78,6 @@ verdictOf register write value =
     (refuseIf (not (sized (rowOf register .holds) value)) Value
     (refuseIf (not (distributed (rowOf register .holds) value)) Distribution
     Accepted)))
-
-unfoldable pub readOf : Bridge → Register → ℕ
-readOf b IntMask = b .mask
-readOf b MsiEn = b .msi
-readOf b IntEdge = b .edge
-readOf b SoftInt = b .soft
-readOf b AutoCtrl0 = 0
-readOf b AutoCtrl1 = 0
-readOf b IntClr = 0  -- write only: no read is accepted
-readOf b IntIsrChip0 = inServiceWord b 0
-readOf b IntIsrChip1 = inServiceWord b 1
-readOf b IntIrr = requestWord b
-readOf b (RouteEntry source) = word 2 (bit (getD (b .routes) source 0))  -- bits 7..2 read 0
 
 abbrev plain : Cell → ℕ → ℕ → Change
 plain cell mask bits = Plain (record { cell = cell; mask = mask; bits = bits })

@@ -1,17 +1,15 @@
 -- The device and its four lines (01, "The cells", "Bus window" and "The four lines").
---   freshOf, resetOf   the fresh state and the reset values      readOf       what an accepted bus or private read gives
+--   freshOf, resetOf   the fresh state and the reset values      gateRead     the gate as it is read
 --   ipiLine, bridgeLine   the four lines                         answeredOf   an outcome beside the lines
 use Prim.Native.Nat.{ℕ, _^_}
 use mathlib.Core.Bool.{Bool, true, false, cond, _&&_}
 use lib.Dec.{eqb}
 use lib.ListN.{replicate}
-use Rattle.ipi.specs.declared.Core.{Core}
-use Rattle.ipi.specs.Core as ipi
-use Rattle.bridge.specs.declared.Bridge.{Bridge}
-use Rattle.bridge.specs.declared.Lines.{Lines}
-use Rattle.bridge.specs.Sources as bridge
-use Rattle.windows.specs.declared.Place.{Place}
-use Rattle.windows.specs.declared.Place.the-variants.{Message, Gate, GateHigh}
+use Rattle.cores.specs.declared.Core.{Core}
+use Rattle.cores.specs.Core as ipi
+use Rattle.sources.specs.declared.Bridge.{Bridge}
+use Rattle.sources.specs.declared.Lines.{Lines}
+use Rattle.sources.specs.Sources as bridge
 use Rattle.device.specs.declared.Device.{Device}
 use Rattle.device.specs.declared.Outcome.{Outcome}
 use Rattle.device.specs.declared.Stepped.{Stepped}
@@ -49,6 +47,9 @@ withCore1 d k = record { core0 = d .core0; core1 = k; bridge = d .bridge; gate =
 abbrev pub withCore : Device → ℕ → Core → Device
 withCore d c k = cond (eqb c 0) (withCore0 d k) (withCore1 d k)
 
+abbrev pub withCores : Device → Core → Core → Device
+withCores d k l = record { core0 = k; core1 = l; bridge = d .bridge; gate = d .gate; «second_open» = d .«second_open» }
+
 abbrev pub withBridge : Device → Bridge → Device
 withBridge d b = record { core0 = d .core0; core1 = d .core1; bridge = b; gate = d .gate; «second_open» = d .«second_open» }
 
@@ -66,14 +67,9 @@ withOpen d opened = record { core0 = d .core0; core1 = d .core1; bridge = d .bri
 abbrev pub gateRead : Bool → ℕ → ℕ
 gateRead gate weight = cond gate weight 0
 
--- at 0x0420 it is bit 48, which 4 bytes do not reach
-abbrev pub gateWeight : ℕ → ℕ
-gateWeight width = cond (eqb width 8) (2 ^ 48) 0
-
-unfoldable pub readOf : Device → Place → ℕ → ℕ
-readOf d (Message c register) width = ipi.readOf (coreOf d c) register width
-readOf d Gate width = gateRead (d .gate) (gateWeight width)
-readOf d GateHigh width = gateRead (d .gate) (2 ^ 16)  -- 0x0424 shows the gate as its bit 16
+-- at 0x0420 it is bit 48, which 4 bytes do not reach; the high half, 0x0424, shows it as bit 16
+abbrev pub gateWeight : Bool → ℕ → ℕ
+gateWeight high width = cond high (2 ^ 16) (cond (eqb width 8) (2 ^ 48) 0)
 
 -- ---- the four lines
 

@@ -1,13 +1,12 @@
 // The device: two cores, the bridge, the gate and the switch of the second window; one step at a time, by value.
 ghost use mathlib.Core.Path.{_≡_};
-ghost use Rattle.device.specs.Device.{answeredOf, coreOf, freshOf, gateRead, gateWeight, linesOf, readOf, resetOf, withBridge, withCore, withGate, withOpen};
+ghost use Rattle.device.specs.Device.{answeredOf, freshOf, gateRead, gateWeight, linesOf, resetOf, withBridge, withCores, withGate, withOpen};
 ghost use Rattle.device.specs.Step.{nextOf, outcomeData, outcomeNumber, outcomeOf, stepOf};
 use access::Refusal;
-use bridge::Bridge;
-use ipi::Core;
+use cores::Core;
+use sources::Bridge;
 use steps::Plan;
 use steps::Step;
-use windows::Place;
 
 pub struct Device {
     pub core0: Core,
@@ -65,9 +64,13 @@ fn gate_read(gate: bool, weight: u64) -> u64
     if gate { weight } else { 0 }
 }
 
-fn gate_weight(width: u64) -> u64
-    ensures { λ r. ⌜ r ≡ gateWeight width ⌝ }
+// Bit 16 of the high half, bit 48 of the word, and no bit of the low half.
+fn gate_weight(high: bool, width: u64) -> u64
+    ensures { λ r. ⌜ r ≡ gateWeight high width ⌝ }
 {
+    if high {
+        return 0x1_0000;
+    }
     if width == 8 { 0x1_0000_0000_0000 } else { 0 }
 }
 
@@ -112,20 +115,11 @@ impl Device {
         }
     }
 
-    fn core(self, c: u64) -> Core
-        ensures { λ r. ⌜ r ≡ coreOf self c ⌝ }
+    fn with_cores(mut self, core0: Core, core1: Core) -> Device
+        ensures { λ r. ⌜ r ≡ withCores self core0 core1 ⌝ }
     {
-        if c == 0 { self.core0 } else { self.core1 }
-    }
-
-    fn with_core(mut self, c: u64, core: Core) -> Device
-        ensures { λ r. ⌜ r ≡ withCore self c core ⌝ }
-    {
-        if c == 0 {
-            self.core0 = core;
-            return self;
-        }
-        self.core1 = core;
+        self.core0 = core0;
+        self.core1 = core1;
         self
     }
 
@@ -152,33 +146,39 @@ impl Device {
         self
     }
 
-    // What an accepted read of a place gives.
-    fn read(self, place: Place, width: u64) -> u64
-        ensures { λ r. ⌜ r ≡ readOf self place width ⌝ }
-    {
-        match place {
-            Place::Message { core, register } => self.core(core).read(register, width),
-            Place::Gate => gate_read(self.gate, gate_weight(width)),
-            Place::GateHigh => gate_read(self.gate, 0x1_0000),
-        }
-    }
-
+    // Both cores are read and one is chosen: the compiler makes no jump of that.
     fn outcome(self, plan: Plan) -> Outcome
         ensures { λ r. ⌜ r ≡ outcomeOf self plan ⌝ }
     {
+        let core0 = self.core0;
+        let core1 = self.core1;
         match plan {
             Plan::Refuse(refusal) => Outcome::Refused(refusal),
-            Plan::Read { place, width } => Outcome::Value(self.read(place, width)),
-            Plan::WriteCore { core: _, effect: _ } => Outcome::Value(0),
-            Plan::WriteGate { written: _, on: _ } => Outcome::Value(0),
+            Plan::ReadCore {
+                register,
+                core,
+                width,
+            } => {
+                let word0 = core0.read(register, width);
+                let word1 = core1.read(register, width);
+                Outcome::Value(bits::choose(core == 0, word0, word1))
+            }
+            Plan::ReadGate { high, width } => {
+                Outcome::Value(gate_read(self.gate, gate_weight(high, width)))
+            }
             Plan::ReadBridge(register) => {
                 let b = self.bridge;
                 Outcome::Value(b.read(register))
             }
-            Plan::WriteBridge(_) => Outcome::Value(0),
+            Plan::WriteCore { effect: _, core: _ } => Outcome::Value(0),
+            Plan::WriteGate { written: _, on: _ } => Outcome::Value(0),
+            Plan::WriteBridge {
+                register: _,
+                value: _,
+            } => Outcome::Value(0),
             Plan::Input {
-                source: _,
                 level: _,
+                source: _,
             } => Outcome::Value(0),
             Plan::Window(_) => Outcome::Value(0),
             Plan::Reset => Outcome::Value(0),
@@ -188,19 +188,28 @@ impl Device {
     fn next(self, plan: Plan) -> Device
         ensures { λ r. ⌜ r ≡ nextOf self plan ⌝ }
     {
+        let core0 = self.core0;
+        let core1 = self.core1;
         match plan {
             Plan::Refuse(_) => self,
-            Plan::Read { place: _, width: _ } => self,
-            Plan::WriteCore { core, effect } => {
-                self.with_core(core, self.core(core).applied(effect))
+            Plan::ReadCore {
+                register: _,
+                core: _,
+                width: _,
+            } => self,
+            Plan::ReadGate { high: _, width: _ } => self,
+            Plan::ReadBridge(_) => self,
+            Plan::WriteCore { effect, core } => {
+                let new0 = core0.applied(core == 0, effect);
+                let new1 = core1.applied(core != 0, effect);
+                self.with_cores(new0, new1)
             }
             Plan::WriteGate { written, on } => self.with_gate(written, on),
-            Plan::ReadBridge(_) => self,
-            Plan::WriteBridge(change) => {
+            Plan::WriteBridge { register, value } => {
                 let b = self.bridge;
-                self.with_bridge(b.changed(change))
+                self.with_bridge(b.changed(bridge::write_change(register, value)))
             }
-            Plan::Input { source, level } => {
+            Plan::Input { level, source } => {
                 let b = self.bridge;
                 self.with_bridge(b.input(source, level))
             }
@@ -213,14 +222,14 @@ impl Device {
     }
 
     // The bridge's lines at the node, behind the gate.
-    fn bridge_lines(self) -> bridge::Lines
+    fn bridge_lines(self) -> sources::Lines
         ensures { λ r. ⌜ r ≡ linesOf self ⌝ }
     {
         if self.gate {
             let b = self.bridge;
             return b.lines();
         }
-        bridge::Lines {
+        sources::Lines {
             chip0: false,
             chip1: false,
         }

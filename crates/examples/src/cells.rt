@@ -10,36 +10,50 @@ const READS: u64 = 86;
 
 // Read k: the 64 routes, the other registers of the bridge, the gate, and the cells of both cores.
 fn read_at(k: u64) -> Step {
+    if k < 73 {
+        return bridge_read(register_at(k));
+    }
+    bus_read(address_at(k), width_at(k))
+}
+
+fn register_at(k: u64) -> Register {
     match k {
-        0..=63 => bridge_read(Register::RouteEntry(k)),
-        64 => bridge_read(Register::IntMask),
-        65 => bridge_read(Register::MsiEn),
-        66 => bridge_read(Register::IntEdge),
-        67 => bridge_read(Register::SoftInt),
-        68 => bridge_read(Register::AutoCtrl0),
-        69 => bridge_read(Register::AutoCtrl1),
-        70 => bridge_read(Register::IntIsrChip0),
-        71 => bridge_read(Register::IntIsrChip1),
-        72 => bridge_read(Register::IntIrr),
-        73 => bus_read(0x1fe00420, 8),
-        _ => message_read_at(k),
+        64 => Register::IntMask,
+        65 => Register::MsiEn,
+        66 => Register::IntEdge,
+        67 => Register::SoftInt,
+        68 => Register::AutoCtrl0,
+        69 => Register::AutoCtrl1,
+        70 => Register::IntIsrChip0,
+        71 => Register::IntIsrChip1,
+        72 => Register::IntIrr,
+        _ => Register::RouteEntry(k),
     }
 }
 
-fn message_read_at(k: u64) -> Step {
+fn address_at(k: u64) -> u64 {
     match k {
-        74 => bus_read(0x1fe01000, 4),
-        75 => bus_read(0x1fe01004, 4),
-        76 => bus_read(0x1fe01020, 8),
-        77 => bus_read(0x1fe01028, 8),
-        78 => bus_read(0x1fe01030, 8),
-        79 => bus_read(0x1fe01038, 8),
-        80 => bus_read(0x1fe01100, 4),
-        81 => bus_read(0x1fe01104, 4),
-        82 => bus_read(0x1fe01120, 8),
-        83 => bus_read(0x1fe01128, 8),
-        84 => bus_read(0x1fe01130, 8),
-        _ => bus_read(0x1fe01138, 8),
+        73 => 0x1fe00420,
+        74 => 0x1fe01000,
+        75 => 0x1fe01100,
+        76 => 0x1fe01004,
+        77 => 0x1fe01104,
+        78 => 0x1fe01020,
+        79 => 0x1fe01028,
+        80 => 0x1fe01030,
+        81 => 0x1fe01038,
+        82 => 0x1fe01120,
+        83 => 0x1fe01128,
+        84 => 0x1fe01130,
+        _ => 0x1fe01138,
+    }
+}
+
+// Status and Enable have 4 bytes.
+fn width_at(k: u64) -> u64 {
+    match k {
+        74..=77 => 4,
+        _ => 8,
     }
 }
 

@@ -1,7 +1,7 @@
 // Which clash of two writes an example names: the number of a cell, and the bits.
 use crate::show;
+use clashes::Clash;
 use reorder::Cell;
-use reorder::Clash;
 
 // No cell, core 0's Status, and any other.
 pub const FREE: u64 = 0;

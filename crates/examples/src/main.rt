@@ -3,6 +3,7 @@
 mod cells;
 mod clash;
 mod kinds;
+mod names;
 mod run;
 mod show;
 
@@ -20,86 +21,61 @@ use run::Run;
 // The bit of source 63.
 const SOURCE_63: u64 = 0x8000_0000_0000_0000;
 
-// Addresses of the second window at which no register starts.
+// The gate's bit.
+const GATE: u64 = 0x1_0000_0000_0000;
+
+// Addresses of the second window at which no register starts. A refused step leaves the device as it was, so the next follows at once.
 fn example_5(run: Run) -> Run {
-    let close = window(false);
-    let send = bus_write(0x3ff01040, 4, 0x00010005);
-    let gate = bus_write(0x3ff00420, 8, 0x1_0000_0000_0000);
     run.fresh()
-        .after(close)
-        .refuses(b"5b 0x3ff01040 closed", bus_read(0x3ff01040, 4), 2)
+        .after(window(false))
+        .refuses_read(0x3ff01040, 4, 2) // 5b
+        .refuses_write(0x3ff01040, 4, 0x00010005, 2) // 5b
+        .refuses_read(0x3ff00420, 8, 2) // 5c
+        .refuses_write(0x3ff00420, 8, GATE, 2) // 5c
         .fresh()
-        .after(close)
-        .refuses(b"5b write 0x3ff01040 closed", send, 2)
-        .fresh()
-        .after(close)
-        .refuses(b"5c 0x3ff00420 closed", bus_read(0x3ff00420, 8), 2)
-        .fresh()
-        .after(close)
-        .refuses(b"5c write 0x3ff00420 closed", gate, 2)
-        .fresh()
-        .refuses(b"5d 0x3ff00420 open", bus_read(0x3ff00420, 8), 2)
-        .fresh()
-        .refuses(b"5d write 0x3ff00420 open", gate, 2)
+        .refuses_read(0x3ff00420, 8, 2) // 5d
+        .refuses_write(0x3ff00420, 8, GATE, 2) // 5d
 }
 
 fn example_6(run: Run) -> Run {
-    run.fresh()
-        .refuses(b"6b read by core 2", private_read(2, 0x1000, 4), 1)
+    run.fresh().refuses(private_read(2, 0x1000, 4), 1) // 6b
 }
 
 // Rights, widths, and values that fit the width or not.
 fn example_7(run: Run) -> Run {
-    let fits = bus_write(0x1fe01004, 4, 0xffffffff);
-    let above = bus_write(0x1fe01004, 4, 0x100000000);
     run.fresh()
-        .refuses(b"7a write 0x1fe01000, 4", bus_write(0x1fe01000, 4, 1), 5)
-        .fresh()
-        .refuses(b"7b read 0x1fe01008, 4", bus_read(0x1fe01008, 4), 5)
-        .fresh()
-        .refuses(b"7c read 0x1fe01004, 8", bus_read(0x1fe01004, 8), 4)
-        .fresh()
-        .refuses(b"7c write 0x1fe01004, 8", bus_write(0x1fe01004, 8, 1), 4)
-        .fresh()
-        .refuses(b"7d read 0x1fe01124, 8", bus_read(0x1fe01124, 8), 4)
-        .fresh()
-        .refuses(b"7d write 0x1fe01124, 8", bus_write(0x1fe01124, 8, 1), 4)
-        .fresh()
-        .refuses(b"7e write 0x1fe01004, 4 = 0x100000000", above, 6)
-        .fresh()
-        .accepts(b"7f write 0x1fe01004, 4 = 0xffffffff", fits)
-        .reads(b"7f core 0 Enable", bus_read(0x1fe01004, 4), 0xffffffff)
+        .refuses_write(0x1fe01000, 4, 1, 5) // 7a
+        .refuses_read(0x1fe01008, 4, 5) // 7b
+        .refuses_read(0x1fe01004, 8, 4) // 7c
+        .refuses_write(0x1fe01004, 8, 1, 4) // 7c
+        .refuses_read(0x1fe01124, 8, 4) // 7d
+        .refuses_write(0x1fe01124, 8, 1, 4) // 7d
+        .refuses_write(0x1fe01004, 4, 0x100000000, 6) // 7e
+        .accepts(bus_write(0x1fe01004, 4, 0xffffffff)) // 7f
+        .reads(bus_read(0x1fe01004, 4), 0xffffffff) // 7f
 }
 
 // Source 63 reaches both outputs, and the gate keeps the lines low until it is open.
 fn example_8(run: Run) -> Run {
-    let unmask = bridge_write(Register::IntMask, 0x7fff_ffff_ffff_ffff);
-    let route = bridge_write(Register::RouteEntry(63), 0xff);
-    let route_read = bridge_read(Register::RouteEntry(63));
-    let request = bridge_read(Register::IntIrr);
-    let chip0 = bridge_read(Register::IntIsrChip0);
-    let chip1 = bridge_read(Register::IntIsrChip1);
     let gate = bus_write(0x1fe00424, 4, 0x00010000);
     run.fresh()
-        .accepts(b"8a INT_MASK = 0x7fffffffffffffff", unmask)
-        .accepts(b"8b ROUTE_ENTRY 63 = 0xff", route)
-        .reads(b"8b ROUTE_ENTRY 63", route_read, 0x03)
-        .accepts(b"8c input 63 high, lines low", input(63, true))
-        .reads(b"8d INTIRR", request, SOURCE_63)
-        .reads(b"8e INTISR_CHIP0", chip0, SOURCE_63)
-        .reads(b"8e INTISR_CHIP1", chip1, SOURCE_63)
-        .raises(b"8f write 0x1fe00424, 4 = 0x00010000", gate, 0b0011)
+        .writes(Register::IntMask, 0x7fff_ffff_ffff_ffff) // 8a
+        .writes(Register::RouteEntry(63), 0xff) // 8b
+        .shows(Register::RouteEntry(63), 0x03) // 8b
+        .accepts(input(63, true)) // 8c
+        .shows(Register::IntIrr, SOURCE_63) // 8d
+        .shows(Register::IntIsrChip0, SOURCE_63) // 8e
+        .shows(Register::IntIsrChip1, SOURCE_63) // 8e
+        .raises(gate, 0b0011) // 8f
 }
 
 fn example_8_source_64(run: Run) -> Run {
     let route = bridge_write(Register::RouteEntry(64), 3);
     let route_read = bridge_read(Register::RouteEntry(64));
     run.fresh()
-        .refuses(b"8g ROUTE_ENTRY 64 = 3", route, 7)
-        .fresh()
-        .refuses(b"8g ROUTE_ENTRY 64", route_read, 7)
-        .fresh()
-        .refuses(b"8g input 64 high", input(64, true), 7)
+        .refuses(route, 7) // 8g
+        .refuses(route_read, 7) // 8g
+        .refuses(input(64, true), 7) // 8g
 }
 
 // Source 3 in edge mode, after a rise of its input.
@@ -113,46 +89,43 @@ fn risen(run: Run) -> Run {
 fn example_9(run: Run) -> Run {
     risen(run)
         .after(input(3, false))
-        .accepts(b"9b INTCLR = 8", bridge_write(Register::IntClr, 8))
-        .reads(b"9b INTIRR", bridge_read(Register::IntIrr), 0)
+        .writes(Register::IntClr, 8) // 9b
+        .shows(Register::IntIrr, 0) // 9b
 }
 
 // A level source requests as long as it is driven. A latch left from edge mode is cleared too, which shows only in edge mode.
 fn example_9_level(run: Run) -> Run {
     let clear = bridge_write(Register::IntClr, 8);
-    let request = bridge_read(Register::IntIrr);
     let run = run.fresh()
         .after(input(3, true))
-        .keeps_reads(b"9c level mode, input 3 high, INTCLR = 8", clear)
-        .reads(b"9c INTIRR", request, 8);
+        .keeps_reads(clear) // 9c
+        .shows(Register::IntIrr, 8); // 9c
     risen(run)
         .after(bridge_write(Register::IntEdge, 0))
-        .keeps_reads(b"9d the same with the latch 1, INTCLR = 8", clear)
-        .reads(b"9d INTIRR", request, 8)
+        .keeps_reads(clear) // 9d
+        .shows(Register::IntIrr, 8) // 9d
         .after(bridge_write(Register::IntEdge, 8))
-        .reads(b"9d INTIRR in edge mode", request, 0)
+        .shows(Register::IntIrr, 0) // 9d
 }
 
 // The drive is high already, so that a soft bit is no rise.
 fn example_10(run: Run) -> Run {
-    let request = bridge_read(Register::IntIrr);
     risen(run)
-        .accepts(b"10a INTCLR = 8", bridge_write(Register::IntClr, 8))
-        .reads(b"10a INTIRR", request, 0)
-        .accepts(b"10b SOFT_INT = 8", bridge_write(Register::SoftInt, 8))
-        .reads(b"10b INTIRR", request, 0)
-        .reads(b"10b SOFT_INT", bridge_read(Register::SoftInt), 8)
+        .writes(Register::IntClr, 8) // 10a
+        .shows(Register::IntIrr, 0) // 10a
+        .writes(Register::SoftInt, 8) // 10b
+        .shows(Register::IntIrr, 0) // 10b
+        .shows(Register::SoftInt, 8) // 10b
 }
 
 // A change of mode leaves the latch as it is.
 fn example_11(run: Run) -> Run {
-    let request = bridge_read(Register::IntIrr);
     risen(run)
         .after(input(3, false))
-        .accepts(b"11a INTEDGE = 0", bridge_write(Register::IntEdge, 0))
-        .reads(b"11a INTIRR", request, 0)
-        .accepts(b"11b INTEDGE = 8", bridge_write(Register::IntEdge, 8))
-        .reads(b"11b INTIRR", request, 8)
+        .writes(Register::IntEdge, 0) // 11a
+        .shows(Register::IntIrr, 0) // 11a
+        .writes(Register::IntEdge, 8) // 11b
+        .shows(Register::IntIrr, 8) // 11b
 }
 
 // Core 0's Set and Clear of one bit.
@@ -161,15 +134,15 @@ fn example_12_status(run: Run) -> Run {
     let clear = private_write(0, 0x100c, 4, 1);
     let status = private_read(0, 0x1000, 4);
     run.fresh()
-        .orders(b"12b Set of 1 and Clear of 1", set, clear, false)
-        .clashes(b"12b Set of 1 and Clear of 1", set, clear, clash::STATUS, 1)
+        .orders(set, clear, false) // 12b
+        .clashes(set, clear, clash::STATUS, 1) // 12b
         .after(set)
-        .accepts(b"12b Set, then Clear", clear)
-        .reads(b"12b core 0 Status", status, 0)
+        .accepts(clear) // 12b
+        .reads(status, 0) // 12b
         .fresh()
         .after(clear)
-        .accepts(b"12b Clear, then Set", set)
-        .reads(b"12b core 0 Status", status, 1)
+        .accepts(set) // 12b
+        .reads(status, 1) // 12b
 }
 
 // Bytes 0 to 2, and bytes 1 to 3, of one half: bytes 1 and 2 are equal.
@@ -178,28 +151,24 @@ fn example_12_mail(run: Run) -> Run {
     let high = private_write(1, 0x1048, 8, 0x11bbccee_0801001c);
     let mailbox = bus_read(0x1fe01138, 8);
     run.fresh()
-        .orders(b"12c two mail sends", low, high, true)
-        .clashes(b"12c two mail sends", low, high, clash::FREE, 0)
+        .orders(low, high, true) // 12c
+        .clashes(low, high, clash::FREE, 0) // 12c
         .after(low)
-        .accepts(b"12c bytes 0 to 2, then 1 to 3", high)
-        .reads(b"12c core 1 MailBox3", mailbox, 0x11bbccdd_00000000)
+        .accepts(high) // 12c
+        .reads(mailbox, 0x11bbccdd_00000000) // 12c
         .fresh()
         .after(high)
-        .accepts(b"12c bytes 1 to 3, then 0 to 2", low)
-        .reads(b"12c core 1 MailBox3", mailbox, 0x11bbccdd_00000000)
+        .accepts(low) // 12c
+        .reads(mailbox, 0x11bbccdd_00000000) // 12c
 }
 
 // Only fixed distribution is held.
 fn example_13(run: Run) -> Run {
-    let zero = bridge_write(Register::AutoCtrl0, 0);
-    let one = bridge_write(Register::AutoCtrl0, 1);
-    let control = bridge_read(Register::AutoCtrl0);
     run.fresh()
-        .accepts(b"13a AUTO_CTRL0 = 0", zero)
-        .reads(b"13a AUTO_CTRL0", control, 0)
-        .fresh()
-        .refuses(b"13b AUTO_CTRL0 = 1", one, 8)
-        .reads(b"13b AUTO_CTRL0", control, 0)
+        .writes(Register::AutoCtrl0, 0) // 13a
+        .shows(Register::AutoCtrl0, 0) // 13a
+        .refuses(bridge_write(Register::AutoCtrl0, 1), 8) // 13b
+        .shows(Register::AutoCtrl0, 0) // 13b
 }
 
 fn main() {

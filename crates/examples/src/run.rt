@@ -2,7 +2,13 @@
 use crate::cells::same_cells;
 use crate::cells::same_reads;
 use crate::clash;
+use crate::kinds::bridge_read;
+use crate::kinds::bridge_write;
+use crate::kinds::bus_read;
+use crate::kinds::bus_write;
+use crate::names::show_name;
 use crate::show;
+use bridge::Register;
 use device::Answer;
 use device::Device;
 use steps::Step;
@@ -50,6 +56,11 @@ fn got_of(a: Answer, before: Device, after: Device) -> Got {
         same_cells: same_cells(before, after),
         same_reads: same_reads(before, after),
     }
+}
+
+fn after_both(d: Device, a: Step, b: Step) -> Device {
+    let first = d.step(a).device;
+    first.step(b).device
 }
 
 // A refused step and a read change no cell.
@@ -113,7 +124,9 @@ impl Run {
         self.with_device(d.step(step).device)
     }
 
+    // Ends the line of a comparison, and counts it.
     fn counted(mut self, passed: bool) -> Run {
+        show::text(b"\n");
         if passed {
             self.passed = std::num::wrapping_add_u64(self.passed, 1);
             return self;
@@ -122,76 +135,93 @@ impl Run {
         self
     }
 
+    // How many comparisons were made.
+    fn count(self) -> u64 {
+        std::num::wrapping_add_u64(self.passed, self.failed)
+    }
+
     // A step: its outcome, and the lines after it.
-    fn check(self, name: &[u8], step: Step, expected: Expected, lines: u64) -> Run {
+    fn check(self, step: Step, expected: Expected, lines: u64) -> Run {
         let before = self.device;
         let stepped = before.step(step);
         let answer = stepped.answer;
         let after = stepped.device;
         let got = got_of(answer, before, after);
         let passed = got.lines == lines && meets(got, expected);
-        show::name(name);
+        show_name(self.count());
         show_expected(expected, lines);
         show::verdict(passed);
         if !passed {
             show_got(got);
         }
-        show::text(b"\n");
         self.with_device(after).counted(passed)
     }
 
     // In these four all lines are low after the step.
-    pub fn refuses(self, name: &[u8], step: Step, number: u64) -> Run {
-        self.check(name, step, Expected::Refused(number), 0)
+    pub fn refuses(self, step: Step, number: u64) -> Run {
+        self.check(step, Expected::Refused(number), 0)
     }
 
-    pub fn reads(self, name: &[u8], step: Step, value: u64) -> Run {
-        self.check(name, step, Expected::Value(value), 0)
+    pub fn reads(self, step: Step, value: u64) -> Run {
+        self.check(step, Expected::Value(value), 0)
     }
 
-    pub fn accepts(self, name: &[u8], step: Step) -> Run {
-        self.check(name, step, Expected::Accepted, 0)
+    pub fn accepts(self, step: Step) -> Run {
+        self.check(step, Expected::Accepted, 0)
     }
 
-    pub fn keeps_reads(self, name: &[u8], step: Step) -> Run {
-        self.check(name, step, Expected::SameReads, 0)
+    pub fn keeps_reads(self, step: Step) -> Run {
+        self.check(step, Expected::SameReads, 0)
     }
 
-    pub fn raises(self, name: &[u8], step: Step, lines: u64) -> Run {
-        self.check(name, step, Expected::Accepted, lines)
+    pub fn raises(self, step: Step, lines: u64) -> Run {
+        self.check(step, Expected::Accepted, lines)
+    }
+
+    // The same of a bus access and of a bridge register.
+    pub fn refuses_read(self, address: u64, width: u64, number: u64) -> Run {
+        self.refuses(bus_read(address, width), number)
+    }
+
+    pub fn refuses_write(self, address: u64, width: u64, value: u64, number: u64) -> Run {
+        self.refuses(bus_write(address, width, value), number)
+    }
+
+    pub fn writes(self, register: Register, value: u64) -> Run {
+        self.accepts(bridge_write(register, value))
+    }
+
+    pub fn shows(self, register: Register, value: u64) -> Run {
+        self.reads(bridge_read(register), value)
     }
 
     // Whether two writes end in the same cells in both orders.
-    pub fn orders(self, name: &[u8], a: Step, b: Step, agree: bool) -> Run {
+    pub fn orders(self, a: Step, b: Step, agree: bool) -> Run {
         let d = self.device;
-        let one = d.step(a).device.step(b).device;
-        let other = d.step(b).device.step(a).device;
-        let got = same_cells(one, other);
+        let got = same_cells(after_both(d, a, b), after_both(d, b, a));
         let passed = got == agree;
-        show::name(name);
+        show_name(self.count());
         show::agreement(agree);
         show::verdict(passed);
         if !passed {
             show::agreement(got);
         }
-        show::text(b"\n");
         self.counted(passed)
     }
 
     // The cell in which two writes clash, and the bits.
-    pub fn clashes(self, name: &[u8], a: Step, b: Step, cell: u64, bits: u64) -> Run {
+    pub fn clashes(self, a: Step, b: Step, cell: u64, bits: u64) -> Run {
         let d = self.device;
-        let got = reorder::find_clash(d.second_open, a, b);
+        let got = clashes::find_clash(d.second_open, a, b);
         let got_cell = clash::cell_of(got);
         let got_bits = clash::bits_of(got);
         let passed = got_cell == cell && got_bits == bits;
-        show::name(name);
+        show_name(self.count());
         clash::show(cell, bits);
         show::verdict(passed);
         if !passed {
             clash::show(got_cell, got_bits);
         }
-        show::text(b"\n");
         self.counted(passed)
     }
 

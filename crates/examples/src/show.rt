@@ -40,12 +40,6 @@ pub fn lines(bits: u64) {
     text(&digits);
 }
 
-// What is compared, and a colon.
-pub fn name(bytes: &[u8]) {
-    text(bytes);
-    text(b": ");
-}
-
 // Of the two orders of a pair of writes.
 pub fn agreement(same: bool) {
     if same {

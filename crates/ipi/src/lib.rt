@@ -1,19 +1,11 @@
-// Chapter 7: the inter-core interrupt cells and mailboxes of one core, its registers by offset, and the two sends.
+// Chapter 7: the inter-core interrupt and mailbox registers by offset, the two sends, and what a write to each does.
 ghost use mathlib.Core.Path.{_≡_};
 ghost use Prim.Native.Nat.{_+_, _<_};
-ghost use lib.ListN.{getD, set};
 ghost use Rattle.ipi.specs.Table.{entry, entryAt, privateEntryAt};
 ghost use Rattle.ipi.specs.Effect.{effectOf, halfOf, inHalf, ipiSent, mailSent, targetOf};
-ghost use Rattle.ipi.specs.Core.{appliedOf, lineOf, mailBoxRead, readOf};
 use access::Access;
 use access::Rights;
 use access::Widths;
-
-pub struct Core {
-    pub status: u32,
-    pub enable: u32,
-    pub mail: [u64; 4],
-}
 
 // A register that an offset names. The low half of a mailbox is the mailbox at width 4.
 pub enum Register {
@@ -192,87 +184,5 @@ pub fn write_effect(register: Register, width: u64, value: u64) -> Effect
         }
         Register::IpiSend => ipi_effect(value),
         Register::MailSend => mail_effect(value),
-    }
-}
-
-fn mailbox(all: [u64; 4], i: u64) -> u64
-    ensures { λ r. ⌜ r ≡ getD all i 0 ⌝ }
-{
-    if i < 4 { all[i as usize] } else { 0 }
-}
-
-fn put_mailbox(mut all: [u64; 4], i: u64, v: u64) -> [u64; 4]
-    ensures { λ r. ⌜ r ≡ set all i v ⌝ }
-{
-    if i < 4 {
-        all[i as usize] = v;
-    }
-    all
-}
-
-fn mailbox_read(word: u64, width: u64) -> u64
-    ensures { λ r. ⌜ r ≡ mailBoxRead word width ⌝ }
-{
-    if width == 8 {
-        word
-    } else {
-        word % 0x1_0000_0000
-    }
-}
-
-fn wide(x: u32) -> u64
-    ensures { λ r. ⌜ r ≡ x ⌝ }
-{
-    x as u64
-}
-
-impl Core {
-    // What a register reads as. No read of Set, Clear or a send is accepted.
-    pub fn read(self, register: Register, width: u64) -> u64
-        ensures { λ r. ⌜ r ≡ readOf self register width ⌝ }
-    {
-        let mail = self.mail;
-        match register {
-            Register::Status => wide(self.status),
-            Register::Enable => wide(self.enable),
-            Register::Set => 0,
-            Register::Clear => 0,
-            Register::MailBox(i) => mailbox_read(mailbox(mail, i), width),
-            Register::MailBoxHigh(i) => mailbox(mail, i) / 0x1_0000_0000,
-            Register::IpiSend => 0,
-            Register::MailSend => 0,
-        }
-    }
-
-    // The core after an effect.
-    pub fn applied(mut self, effect: Effect) -> Core
-        ensures { λ r. ⌜ r ≡ appliedOf self effect ⌝ }
-    {
-        let mail = self.mail;
-        let cell = effect.cell;
-        let mask = effect.mask;
-        let bits = effect.bits;
-        match cell {
-            Cell::Status => {
-                self.status = bits::merge32(self.status, mask, bits);
-                self
-            }
-            Cell::Enable => {
-                self.enable = bits::merge32(self.enable, mask, bits);
-                self
-            }
-            Cell::MailBox(i) => {
-                let new = put_mailbox(mail, i, bits::merge(mailbox(mail, i), mask, bits));
-                self.mail = new;
-                self
-            }
-        }
-    }
-
-    // The interrupt line: some bit is 1 in both Status and Enable.
-    pub fn line(self) -> bool
-        ensures { λ r. ⌜ r ≡ lineOf self ⌝ }
-    {
-        bits::common32(self.status, self.enable)
     }
 }

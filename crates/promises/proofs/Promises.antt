@@ -6,14 +6,14 @@ use mathlib.Core.Bool.{Bool, true, false, not, _&&_, true≢false}
 use native.Mathlib.Omega.{arith}
 use Rattle.bits.proofs.Some.{some-at, some-of}
 use Rattle.access.specs.declared.Refusal.{Refusal}
-use Rattle.ipi.specs.declared.Core.{Core}
-use Rattle.ipi.specs.Core as ipi
-use Rattle.bridge.specs.declared.Bridge.{Bridge}
-use Rattle.bridge.specs.Sources as bridge
+use Rattle.cores.specs.declared.Core.{Core}
+use Rattle.cores.specs.Core as ipi
+use Rattle.sources.specs.declared.Bridge.{Bridge}
+use Rattle.sources.specs.Sources as bridge
 use Rattle.device.specs.declared.Device.{Device}
 use Rattle.device.specs.declared.Outcome.the-variants.{Value, Refused}
 use Rattle.steps.specs.declared.Plan.{Plan}
-use Rattle.steps.specs.declared.Plan.the-variants.{Refuse, Read, WriteCore, WriteGate, ReadBridge, WriteBridge, Input, Window, Reset}
+use Rattle.steps.specs.declared.Plan.the-variants.{Refuse, ReadCore, WriteCore, ReadGate, WriteGate, ReadBridge, WriteBridge, Input, Window, Reset}
 use Rattle.device.specs.Device.{answeredOf, bridgeLine}
 use Rattle.steps.specs.Decide.{decideOf}
 use Rattle.device.specs.Step.{nextOf, outcomeData, outcomeOf, stepOf}
@@ -28,12 +28,13 @@ accepted v reason e = let z : _≡_ {A = ℕ} 0 1 = cc in absurd (omega arith)
 refused-plan : (d : Device) (p : Plan) (reason : Refusal) → outcomeOf d p ≡ Refused reason → nextOf d p ≡ d
 unfolding outcomeOf nextOf
 refused-plan d (Refuse f) reason e = refl
-refused-plan d (Read place w) reason e = refl
+refused-plan d (ReadCore register core width) reason e = refl
+refused-plan d (ReadGate high width) reason e = refl
 refused-plan d (ReadBridge register) reason e = refl
-refused-plan d (WriteCore core effect) reason e = accepted 0 reason e
+refused-plan d (WriteCore effect core) reason e = accepted 0 reason e
 refused-plan d (WriteGate written on) reason e = accepted 0 reason e
-refused-plan d (WriteBridge change) reason e = accepted 0 reason e
-refused-plan d (Input source level) reason e = accepted 0 reason e
+refused-plan d (WriteBridge register value) reason e = accepted 0 reason e
+refused-plan d (Input level source) reason e = accepted 0 reason e
 refused-plan d (Window on) reason e = accepted 0 reason e
 refused-plan d Reset reason e = accepted 0 reason e
 

@@ -6,8 +6,8 @@ use mathlib.Core.Bool.{Bool, true, false}
 use mathlib.Core.List.{List, [], _∷_, map}
 use mathlib.Core.Path.{_≡_}
 use lib.ListN.{replicate, set}
-use Rattle.ipi.specs.declared.Core.{Core}
-use Rattle.bridge.specs.declared.Bridge.{Bridge}
+use Rattle.cores.specs.declared.Core.{Core}
+use Rattle.sources.specs.declared.Bridge.{Bridge}
 use Rattle.bridge.specs.declared.Register.the-variants.{IntMask, IntEdge, IntClr, IntIsrChip0, IntIsrChip1, IntIrr, RouteEntry}
 use Rattle.device.specs.declared.Device.{Device}
 use Rattle.device.specs.declared.Answer.{Answer}

@@ -9,10 +9,10 @@ use mathlib.Core.Bool.{true, false}
 use lib.ListN.{getD}
 use Rattle.bits.specs.Bits.{bit}
 use Rattle.access.specs.declared.Refusal.{Refusal}
-use Rattle.ipi.specs.declared.Core.{Core}
+use Rattle.cores.specs.declared.Core.{Core}
 use Rattle.ipi.specs.declared.Effect as ipi
-use Rattle.bridge.specs.declared.Bridge.{Bridge}
-use Rattle.bridge.specs.Sources.{requestAt}
+use Rattle.sources.specs.declared.Bridge.{Bridge}
+use Rattle.sources.specs.Sources.{requestAt}
 use Rattle.device.specs.declared.Device.{Device}
 use Rattle.device.specs.declared.Outcome.the-variants.{Refused}
 use Rattle.steps.specs.declared.Step.{Step}
@@ -74,5 +74,5 @@ pub record Apart (other : Device → Core) (d e : Device) : Type 0 where
 abbrev pub Separation : Type 0
 Separation =
     (d : Device) (s : Step) (e : ipi.Effect)
-    → (decideOf (d .«second_open») s ≡ WriteCore 0 e → Apart (λ (x : Device). x .core1) d (stepOf d s .device))
-    × (decideOf (d .«second_open») s ≡ WriteCore 1 e → Apart (λ (x : Device). x .core0) d (stepOf d s .device))
+    → (decideOf (d .«second_open») s ≡ WriteCore e 0 → Apart (λ (x : Device). x .core1) d (stepOf d s .device))
+    × (decideOf (d .«second_open») s ≡ WriteCore e 1 → Apart (λ (x : Device). x .core0) d (stepOf d s .device))

@@ -8,12 +8,12 @@ use Rattle.bits.specs.Bits.{bit, digit}
 use Rattle.bits.proofs.Writes.{merge-one}
 use Rattle.order.specs.Cells as order
 use Rattle.order.specs.Cells.{Block, Names, after, effect}
-use Rattle.ipi.specs.Core as ipi-core
-use Rattle.bridge.specs.Changes as bridge-changes
+use Rattle.cores.specs.Core as ipi-core
+use Rattle.sources.specs.Changes as bridge-changes
 use Rattle.device.specs.Device.{withBridge, withCore0, withCore1, withGate}
-use Rattle.ipi.proofs.Cells.{core-block, core-determined, core-names}
-use Rattle.bridge.specs.Cells as br
-use Rattle.bridge.proofs.Cells.{bridge-block, bridge-determined, bridge-names, rest-stays}
+use Rattle.cores.proofs.Cells.{core-block, core-determined, core-names}
+use Rattle.sources.specs.Cells as br
+use Rattle.sources.proofs.Cells.{bridge-block, bridge-determined, bridge-names, rest-stays}
 use Rattle.device.specs.declared.Device.{Device}
 use Rattle.reorder.specs.declared.Cell.{Cell}
 use Rattle.reorder.specs.declared.Cell.the-variants.{Core0, Core1, Bridge, Gate}

@@ -9,24 +9,26 @@ use Rattle.order.specs.Cells.{Effect, perform}
 use Rattle.order.proofs.Rule.{order-rule}
 use Rattle.order.proofs.Blocks.{block-writes}
 use Rattle.ipi.specs.declared.Effect as ipi-effect
-use Rattle.ipi.specs.Core as ipi
+use Rattle.cores.specs.Core as ipi
 use Rattle.bridge.specs.declared.Change.the-variants.{Plain, Modes, Soft, Clear, Nothing}
-use Rattle.bridge.specs.Changes as bridge-changes
+use Rattle.bridge.specs.declared.Change.{Change}
+use Rattle.bridge.specs.Registers.{changeOf}
+use Rattle.sources.specs.Changes.{appliedOf, changedOf}
 use Rattle.device.specs.declared.Device.{Device}
 use Rattle.steps.specs.declared.Step.{Step}
 use Rattle.steps.specs.declared.Plan.{Plan}
-use Rattle.steps.specs.declared.Plan.the-variants.{Refuse, Read, WriteCore, WriteGate, ReadBridge, WriteBridge, Input, Window, Reset}
-use Rattle.device.specs.Device.{answeredOf, withCore0, withCore1}
+use Rattle.steps.specs.declared.Plan.the-variants.{Refuse, ReadCore, WriteCore, ReadGate, WriteGate, ReadBridge, WriteBridge, Input, Window, Reset}
+use Rattle.device.specs.Device.{answeredOf, withBridge, withCore0, withCore1}
 use Rattle.steps.specs.Decide.{decideOf}
 use Rattle.device.specs.Step.{nextOf, outcomeOf, stepOf}
 use Rattle.reorder.specs.declared.Cell.{Cell}
 use Rattle.reorder.specs.declared.Cell.the-variants.{Core0, Core1}
-use Rattle.reorder.specs.Order.{AcceptanceStays, LinesAgree, Listed, OrderRule, Whole, effectIn, effectOf, listed, next}
+use Rattle.reorder.specs.Order.{AcceptanceStays, LinesAgree, Listed, OrderRule, Whole, changeEffect, effectIn, effectOf, listed, next, plain}
 use Rattle.reorder.proofs.Cells.{Rest, apply, device-block, device-determined, on, rest, rest-on}
 
 -- ---- a listed plan is its effect
 
-core-on : (d : Device) (c : ℕ) (e : ipi-effect.Effect) → nextOf d (WriteCore c e) ≡ perform apply (effectOf (WriteCore c e)) d
+core-on : (d : Device) (c : ℕ) (e : ipi-effect.Effect) → nextOf d (WriteCore e c) ≡ perform apply (effectOf (WriteCore e c)) d
 unfolding nextOf effectOf ipi.appliedOf
 core-on d c e = by (eqb c 0)
   where
@@ -39,19 +41,24 @@ core-on d c e = by (eqb c 0)
 not-listed : {A : Type 0} → false ≡ true → A
 not-listed e = absurd (true≢false (sym e))
 
+change-on : (d : Device) (c : Change) → plain c ≡ true → withBridge d (changedOf (d .bridge) c) ≡ perform apply (changeEffect c) d
+unfolding plain changeEffect changedOf appliedOf
+change-on d (Plain effect) e = refl
+change-on d (Modes v) e = not-listed e
+change-on d (Soft v) e = not-listed e
+change-on d (Clear v) e = not-listed e
+change-on d Nothing e = not-listed e
+
 plan-on : (d : Device) (p : Plan) → listed p ≡ true → nextOf d p ≡ perform apply (effectOf p) d
-unfolding nextOf effectOf listed bridge-changes.changedOf bridge-changes.appliedOf
+unfolding nextOf effectOf listed
 plan-on d (Refuse reason) e = refl
-plan-on d (WriteCore core effect) e = core-on d core effect
+plan-on d (WriteCore effect core) e = core-on d core effect
 plan-on d (WriteGate written on) e = rw (bit-digit, bit-digit)
-plan-on d (WriteBridge (Plain effect)) e = refl
-plan-on d (WriteBridge (Modes v)) e = not-listed e
-plan-on d (WriteBridge (Soft v)) e = not-listed e
-plan-on d (WriteBridge (Clear v)) e = not-listed e
-plan-on d (WriteBridge Nothing) e = not-listed e
-plan-on d (Read place w) e = not-listed e
+plan-on d (WriteBridge register value) e = change-on d (changeOf register value) e
+plan-on d (ReadCore register core width) e = not-listed e
+plan-on d (ReadGate high width) e = not-listed e
 plan-on d (ReadBridge register) e = not-listed e
-plan-on d (Input source level) e = not-listed e
+plan-on d (Input level source) e = not-listed e
 plan-on d (Window on) e = not-listed e
 plan-on d Reset e = not-listed e
 
@@ -98,12 +105,13 @@ lines-agree d h ws all free ps qs p q o = ap (λ (e : Device). answeredOf e o) (
 plan-answers : (d e : Device) (p : Plan) → listed p ≡ true → outcomeOf d p ≡ outcomeOf e p
 unfolding outcomeOf listed
 plan-answers d e (Refuse reason) l = refl
-plan-answers d e (WriteCore core effect) l = refl
+plan-answers d e (WriteCore effect core) l = refl
 plan-answers d e (WriteGate written on) l = refl
-plan-answers d e (WriteBridge change) l = refl
-plan-answers d e (Read place w) l = not-listed l
+plan-answers d e (WriteBridge register value) l = refl
+plan-answers d e (ReadCore register core width) l = not-listed l
+plan-answers d e (ReadGate high width) l = not-listed l
 plan-answers d e (ReadBridge register) l = not-listed l
-plan-answers d e (Input source level) l = not-listed l
+plan-answers d e (Input level source) l = not-listed l
 plan-answers d e (Window on) l = not-listed l
 plan-answers d e Reset l = not-listed l
 

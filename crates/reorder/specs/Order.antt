@@ -11,16 +11,18 @@ use lib.Dec.{eqb}
 use Rattle.bits.specs.Bits.{digit}
 use Rattle.order.specs.Order.{All, ConflictFree, OneEnd, Order, run}
 use Rattle.order.specs.Cells as order
-use Rattle.ipi.specs.Cells as ipi
+use Rattle.cores.specs.Cells as ipi
+use Rattle.bridge.specs.declared.Change.{Change}
 use Rattle.bridge.specs.declared.Change.the-variants.{Plain, Modes, Soft, Clear, Nothing}
-use Rattle.bridge.specs.Cells as br
+use Rattle.bridge.specs.Registers.{changeOf}
+use Rattle.sources.specs.Cells as br
 use Rattle.reorder.specs.declared.Cell.{Cell}
 use Rattle.reorder.specs.declared.Cell.the-variants.{Core0, Core1, Bridge, Gate}
 use Rattle.device.specs.declared.Device.{Device}
 use Rattle.steps.specs.declared.Step.{Step}
 use Rattle.steps.specs.declared.Step.the-variants as step
 use Rattle.steps.specs.declared.Plan.{Plan}
-use Rattle.steps.specs.declared.Plan.the-variants.{Refuse, Read, WriteCore, WriteGate, ReadBridge, WriteBridge, Input, Window, Reset}
+use Rattle.steps.specs.declared.Plan.the-variants.{Refuse, ReadCore, WriteCore, ReadGate, WriteGate, ReadBridge, WriteBridge, Input, Window, Reset}
 use Rattle.steps.specs.Decide.{decideOf}
 use Rattle.device.specs.declared.Outcome.{Outcome}
 use Rattle.device.specs.Device.{answeredOf}
@@ -60,19 +62,24 @@ same Gate (Bridge b) = false
 
 -- ---- what a write gives
 
+-- of the bridge's writes only the plain ones give values
+unfoldable pub changeEffect : Change → Option (order.Effect Cell)
+changeEffect (Plain e) = some (order.effect (Bridge (e .cell)) (e .mask) (e .bits))
+changeEffect (Modes v) = none
+changeEffect (Soft v) = none
+changeEffect (Clear v) = none
+changeEffect Nothing = none
+
 -- the effect of a plan: the cell, the bits that are given values, and the values; a refused write has none
 unfoldable pub effectOf : Plan → Option (order.Effect Cell)
-effectOf (WriteCore core e) = some (order.effect (cond (eqb core 0) (Core0 (e .cell)) (Core1 (e .cell))) (e .mask) (e .bits))
+effectOf (WriteCore e core) = some (order.effect (cond (eqb core 0) (Core0 (e .cell)) (Core1 (e .cell))) (e .mask) (e .bits))
 effectOf (WriteGate written on) = some (order.effect Gate (digit written) (digit on))
-effectOf (WriteBridge (Plain e)) = some (order.effect (Bridge (e .cell)) (e .mask) (e .bits))
-effectOf (WriteBridge (Modes v)) = none
-effectOf (WriteBridge (Soft v)) = none
-effectOf (WriteBridge (Clear v)) = none
-effectOf (WriteBridge Nothing) = none
+effectOf (WriteBridge register value) = changeEffect (changeOf register value)
 effectOf (Refuse reason) = none
-effectOf (Read place w) = none
+effectOf (ReadCore register core width) = none
+effectOf (ReadGate high width) = none
 effectOf (ReadBridge register) = none
-effectOf (Input source level) = none
+effectOf (Input level source) = none
 effectOf (Window on) = none
 effectOf Reset = none
 
@@ -98,20 +105,24 @@ isWrite (step.Input i l) = false
 isWrite (step.Window on) = false
 isWrite step.Reset = false
 
+unfoldable pub plain : Change → Bool
+plain (Plain e) = true
+plain (Modes v) = false
+plain (Soft v) = false
+plain (Clear v) = false
+plain Nothing = false
+
 -- refused, or a write to message cells, the gate, INT_MASK, MSI_EN or ROUTE_ENTRY; an accepted write to SOFT_INT, INTEDGE, INTCLR
 -- or AUTO_CTRL is not in such lists
 unfoldable pub listed : Plan → Bool
 listed (Refuse reason) = true
-listed (WriteCore core e) = true
+listed (WriteCore e core) = true
 listed (WriteGate written on) = true
-listed (WriteBridge (Plain e)) = true
-listed (WriteBridge (Modes v)) = false
-listed (WriteBridge (Soft v)) = false
-listed (WriteBridge (Clear v)) = false
-listed (WriteBridge Nothing) = false
-listed (Read place w) = false
+listed (WriteBridge register value) = plain (changeOf register value)
+listed (ReadCore register core width) = false
+listed (ReadGate high width) = false
 listed (ReadBridge register) = false
-listed (Input source level) = false
+listed (Input level source) = false
 listed (Window on) = false
 listed Reset = false
 

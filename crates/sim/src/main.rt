@@ -1,26 +1,22 @@
 // Runs step scripts: `sim FILE...` each file on a fresh device, `sim` alone its standard input.
 mod block;
+mod forms;
 mod output;
 mod parse;
 mod print;
 mod run;
-mod tables;
+mod step;
 mod words;
 
 use libc::STDIN_FILENO;
 use output::flush;
-use output::put_header;
-use output::put_unread;
+use print::HEADER;
+use print::NO_FILE;
+use print::UNREAD;
+use print::put_error;
+use print::put_line;
 use run::Run;
 use words::part;
-
-// A script, how many bytes of its next line are held, whether anything of it was read, and whether it is over.
-struct Script {
-    run: Run,
-    held: usize,
-    started: bool,
-    over: bool,
-}
 
 // The bytes of a line, without the carriage return at its end.
 fn line_text(line: &[u8], held: usize) -> &[u8] {
@@ -43,32 +39,25 @@ fn hold(line: &mut [u8], held: usize, byte: u8) -> usize {
     held
 }
 
-// Runs the lines that end in the first n bytes of a chunk, and holds the rest.
+// Runs the lines that end in what was read, and holds the rest.
 fn feed(
-    mut script: Script,
-    chunk: &[u8],
-    n: usize,
+    mut run: Run,
+    bytes: &[u8],
     line: &mut [u8],
-    block: &mut [u64; 1536],
+    block: &mut [[u64; 7]; 256],
     out: &mut [u8],
-) -> Script {
+) -> Run {
     let mut i = 0;
-    while i < n {
-        if chunk.len() <= i {
-            return script;
-        }
-        let byte = chunk[i];
+    while i < bytes.len() {
+        let byte = bytes[i];
         i += 1;
         if byte == b'\n' {
-            let run = script.run;
-            let next = run.run_line(line_text(line, script.held), block, out);
-            script.run = next;
-            script.held = 0;
+            run = run.run_line(line_text(line, run.held), block, out);
         } else {
-            script.held = hold(line, script.held, byte);
+            run.held = hold(line, run.held, byte);
         }
     }
-    script
+    run
 }
 
 // How many bytes of the chunk are to be run: at the end of the input a line feed closes a line that lacks its own.
@@ -84,104 +73,107 @@ fn closed(chunk: &mut [u8], got: isize, held: usize) -> usize {
     io::count(got, chunk)
 }
 
-impl Script {
-    fn fresh(at: usize) -> Script {
-        Script {
-            run: Run::fresh(at),
-            held: 0,
-            started: false,
-            over: false,
-        }
+// The line for a file that cannot be read.
+fn unread(error: i32) -> u64 {
+    match error {
+        libc::ENOENT => NO_FILE,
+        libc::EACCES => NO_FILE + 1,
+        libc::EISDIR => NO_FILE + 2,
+        libc::ENOTDIR => NO_FILE + 3,
+        libc::ENAMETOOLONG => NO_FILE + 4,
+        libc::ELOOP => NO_FILE + 5,
+        libc::EIO => NO_FILE + 6,
+        _ => UNREAD,
     }
+}
 
-    // The script after a read: its header comes with the first, and nothing follows a read of nothing or one that failed.
-    fn after_read(
-        mut self,
-        got: isize,
-        error: i32,
-        name: &[u8],
-        several: bool,
-        out: &mut [u8],
-    ) -> Script {
-        let mut run = self.run;
-        if got < 0 {
-            run.at = put_unread(out, run.at, name, error);
-            self.run = run;
-            self.over = true;
-            return self;
-        }
-        self.over = got == 0;
-        if self.started {
-            return self;
-        }
-        self.started = true;
-        if several {
-            run.at = put_header(out, run.at, name);
-            self.run = run;
-        }
-        self
+fn put_unread(out: &mut [u8], at: usize, name: &[u8], error: i32) -> usize {
+    put_error(out, at, unread(error), [0; 5], name)
+}
+
+// The place in the output after a read: the header comes with the first, and a line says where one failed.
+fn put_read(
+    out: &mut [u8],
+    at: usize,
+    name: &[u8],
+    failed: bool,
+    error: i32,
+    headed: bool,
+) -> usize {
+    if failed {
+        return put_unread(out, at, name, error);
     }
+    if headed {
+        return put_line(out, at, HEADER, [0; 5], name);
+    }
+    at
 }
 
 // Reads once, and runs the lines that end in what came.
 fn turn(
-    script: Script,
+    mut run: Run,
     fd: i32,
     name: &[u8],
     several: bool,
     line: &mut [u8],
-    block: &mut [u64; 1536],
+    block: &mut [[u64; 7]; 256],
     out: &mut [u8],
-) -> Script {
+) -> Run {
     let mut chunk = io::large_buffer();
     let got = libc::read(fd, &mut chunk);
     let error = os::errno();
-    let n = closed(&mut chunk, got, script.held);
-    let next = script.after_read(got, error, name, several, out);
-    feed(next, &chunk, n, line, block, out)
+    run.at = put_read(out, run.at, name, got < 0, error, several & !run.started);
+    run.started = run.started | (0 <= got);
+    run.over = got <= 0;
+    let n = closed(&mut chunk, got, run.held);
+    feed(run, part(&chunk, 0, n), line, block, out)
 }
 
 // Runs the script of a descriptor, and answers the place in the output.
 fn run_script(fd: i32, name: &[u8], several: bool, out: &mut [u8], at: usize) -> usize {
     let mut line = [0u8; 1026];
-    let mut block = [0u64; 1536];
-    let mut script = Script::fresh(at);
+    let mut block = [[0u64; 7]; 256];
+    let mut run = Run::fresh(at);
     // A proved loop has to end, and nothing says that the input does: no run uses the turns up.
     let mut turns = u64::MAX;
-    while turns > 0 && !script.over {
-        script = turn(script, fd, name, several, &mut line, &mut block, out);
+    while turns > 0 && !run.over {
+        run = turn(run, fd, name, several, &mut line, &mut block, out);
         turns -= 1;
     }
-    let run = script.run;
-    if script.started {
-        return run.ended(out).put_summary(out);
+    if run.started {
+        return run.ended(out).put_counts(out);
     }
     run.at
 }
 
+// Runs the file of a path.
+fn run_file(path: &[u8], several: bool, out: &mut [u8], at: usize) -> usize {
+    let fd = os::open_read(path);
+    if fd < 0 {
+        let error = os::errno();
+        return put_unread(out, at, path, error);
+    }
+    let next = run_script(fd, path, several, out, at);
+    libc::close(fd);
+    next
+}
+
 // Runs the file that an argument names.
-fn run_file(argument: usize, several: bool, out: &mut [u8], at: usize) -> usize {
+fn run_argument(argument: usize, several: bool, out: &mut [u8], at: usize) -> usize {
     let mut path = io::buffer();
     let length = os::arg(argument, &mut path);
     let error = os::errno();
     if error != 0 {
         return put_unread(out, at, b"argument", error);
     }
-    let fd = os::open_read(&path[..length]);
-    if fd < 0 {
-        let reason = os::errno();
-        return put_unread(out, at, &path[..length], reason);
-    }
-    let next = run_script(fd, &path[..length], several, out, at);
-    libc::close(fd);
-    next
+    run_file(&path[..length], several, out, at)
 }
 
-fn run_files(count: usize, out: &mut [u8]) -> usize {
+fn run_arguments(count: usize, out: &mut [u8]) -> usize {
     let mut at = 0;
     let mut argument = 1;
     while argument < count {
-        at = run_file(argument, 2 < count, out, at);
+        at = run_argument(argument, 2 < count, out, at);
         argument += 1;
     }
     at
@@ -192,7 +184,7 @@ fn run_all(out: &mut [u8]) -> usize {
     if count < 2 {
         return run_script(STDIN_FILENO, b"standard input", false, out, 0);
     }
-    run_files(count, out)
+    run_arguments(count, out)
 }
 
 fn main() {

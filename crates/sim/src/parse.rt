@@ -1,294 +1,202 @@
-// One line of a script: what it asks, or what is wrong with it.
-ghost use Prim.Native.Nat.{_≤_};
-use crate::words::Begun;
-use crate::words::Form;
+// One line of a script: the numbers that say what it asks, or what is wrong with it.
+use crate::forms::BLANK;
+use crate::forms::BUS_READ;
+use crate::forms::begun_by;
+use crate::print::LEVEL;
+use crate::print::LINES;
+use crate::print::MALFORMED;
+use crate::print::MISSING;
+use crate::print::NONE;
+use crate::print::TOO_LARGE;
+use crate::print::TOO_LONG;
+use crate::print::UNEXPECTED;
+use crate::print::UNPRINTABLE;
 use crate::words::Words;
-use crate::words::begun_by;
+use crate::words::entry;
+use crate::words::find;
 use crate::words::split;
 use crate::words::word;
-use bridge::Register;
 use numbers::Number;
-use steps::Step;
 
-pub enum Line {
-    Blank,
-    Step(Step),
-    Expect(Expectation),
-    ReorderBegin,
-    ReorderEnd,
-    Wrong(Mistake),
+// The error of a line, or NONE, and the place of the word at fault. The values are the form, then the numbers of the line by their places,
+// with that of a register at its name's place, and last the line's own number.
+pub struct Line {
+    pub error: u64,
+    pub place: usize,
+    pub values: [u64; 7],
 }
 
-// What the last step is to have answered: a read value, a refusal number, or the four lines, of which the first is the highest bit.
-pub enum Expectation {
-    Value(u64),
-    Refused(u64),
-    Lines(u64),
+// What a word says, or what is wrong with it.
+struct Value {
+    value: u64,
+    error: u64,
 }
 
-// What is wrong with a word of a line.
-pub enum Fault {
-    Missing,
-    Unexpected,
-    Malformed,
-    TooLarge,
-    Level,
-    Lines,
-}
-
-// What is wrong, what was expected, and the word at fault, from its start to before its end.
-pub struct Mistake {
-    pub fault: Fault,
-    pub expected: Begun,
-    pub start: usize,
-    pub end: usize,
-}
-
-// How many words a form has, and which of them are numbers: bit i for word i.
-struct Layout {
-    words: usize,
-    numbers: u64,
-}
-
-fn shape(words: usize, numbers: u64) -> Layout {
-    Layout { words, numbers }
-}
-
-fn layout_of(form: Form) -> Layout {
-    match form {
-        Form::BusRead => shape(4, 0b001100),
-        Form::BusWrite => shape(5, 0b011100),
-        Form::CoreRead => shape(5, 0b011010),
-        Form::CoreWrite => shape(6, 0b111010),
-        Form::BridgeRead(_) => shape(3, 0),
-        Form::BridgeWrite(_) => shape(4, 0b001000),
-        Form::RouteRead => shape(4, 0b001000),
-        Form::RouteWrite => shape(5, 0b011000),
-        Form::Input => shape(3, 0b000110),
-        Form::WindowOpen => shape(2, 0),
-        Form::WindowClosed => shape(2, 0),
-        Form::Reset => shape(1, 0),
-        Form::ExpectValue => shape(2, 0b000010),
-        Form::ExpectRefused => shape(3, 0b000100),
-        Form::ExpectLines => shape(3, 0),
-        Form::ReorderBegin => shape(2, 0),
-        Form::ReorderEnd => shape(2, 0),
+fn number(word: &[u8]) -> Value {
+    match numbers::parse_number(word) {
+        Number::Value(value) => Value { value, error: NONE },
+        Number::TooLarge => Value {
+            value: 0,
+            error: TOO_LARGE,
+        },
+        Number::Malformed => Value {
+            value: 0,
+            error: MALFORMED,
+        },
     }
 }
 
-// A mistake that word i shows.
-fn wrong(fault: Fault, expected: Begun, words: Words, i: usize) -> Line {
-    if i < 7 {
-        let start = words.starts[i];
-        let end = words.ends[i];
-        return Line::Wrong(Mistake {
-            fault,
-            expected,
-            start,
-            end,
-        });
+// A value that has to be below a limit, or else its error.
+fn below(value: Value, limit: u64, error: u64) -> Value {
+    if value.value < limit {
+        return value;
     }
-    missing(expected)
+    Value { value: 0, error }
 }
 
-fn missing(expected: Begun) -> Line {
-    Line::Wrong(Mistake {
-        fault: Fault::Missing,
-        expected,
-        start: 0,
-        end: 0,
-    })
+// The four lines, the first as the highest bit.
+fn flags(word: &[u8]) -> u64 {
+    find(
+        b"0000 0001 0010 0011 0100 0101 0110 0111 1000 1001 1010 1011 1100 1101 1110 1111",
+        word,
+    )
 }
 
-// Word i is none of those that were expected.
-fn no_form(expected: Begun, words: Words, i: usize) -> Line {
-    if i < words.count {
-        return wrong(Fault::Unexpected, expected, words, i);
+// The value of a word of a kind: n a number, l a level, f four flags; a fixed word has the value that is held for its place.
+fn value_of(kind: u8, word: &[u8], held: u64) -> Value {
+    let fixed = Value {
+        value: held,
+        error: NONE,
+    };
+    match kind {
+        b'n' => number(word),
+        b'l' => below(number(word), 2, LEVEL),
+        b'f' => below(
+            Value {
+                value: flags(word),
+                error: NONE,
+            },
+            16,
+            LINES,
+        ),
+        _ => fixed,
     }
-    missing(expected)
 }
 
-// The numbers of a line by their places; where a word is no number, what it is and its place.
-struct Numbers {
-    number: Number,
-    at: usize,
-    values: [u64; 6],
-}
-
-// The number at a place; 0 where the form has none there.
-fn number_at(s: &[u8], words: Words, numbers: u64, i: usize) -> Number {
-    if i < 6 {
-        if (numbers >> i) & 1 == 1 {
-            return numbers::parse_number(word(s, words, i));
-        }
+fn kind_at(shape: &[u8], i: usize) -> u8 {
+    if i < shape.len() {
+        return shape[i];
     }
-    Number::Value(0)
+    b'w'
 }
 
-fn numbers_of(s: &[u8], words: Words, numbers: u64) -> Numbers {
-    let mut values = [0u64; 6];
+// The values of a line whose words are as many as its form has.
+fn values_of(s: &[u8], words: Words, shape: &[u8], held: [u64; 7]) -> Line {
+    let mut values = held;
     let mut i = 0;
     while i < 6 {
-        let number = number_at(s, words, numbers, i);
-        let Number::Value(value) = number else {
-            return Numbers {
-                number,
-                at: i,
+        let value = value_of(kind_at(shape, i), word(s, words, i), values[i]);
+        if value.error != NONE {
+            return Line {
+                error: value.error,
+                place: i,
                 values,
             };
-        };
-        values[i] = value;
+        }
+        values[i] = value.value;
         i += 1;
     }
-    Numbers {
-        number: Number::Value(0),
-        at: 6,
+    Line {
+        error: NONE,
+        place: 0,
         values,
     }
 }
 
-// A flag in the text of the four lines; 16 where it is none.
-fn flag(s: &[u8], i: usize) -> u64
-    ensures { λ r. ⌜ r ≤ 16 ⌝ }
-{
-    if i < s.len() {
-        if s[i] == b'0' {
-            return 0;
-        }
-        if s[i] == b'1' {
-            return 1;
-        }
+// What is wrong with the count of a line's words, where the form has as many as its shape has letters. A form that is open has one more.
+fn count_error(form: u64, count: usize, letters: usize) -> u64 {
+    if letters < count {
+        return UNEXPECTED;
     }
-    16
-}
-
-// The text of the four lines, the first as the highest bit; above 15 where it is not four flags.
-fn flags(s: &[u8]) -> u64 {
-    if s.len() != 4 {
-        return 16;
+    if count < letters {
+        return MISSING;
     }
-    flag(s, 0) * 8 + flag(s, 1) * 4 + flag(s, 2) * 2 + flag(s, 3)
-}
-
-fn expect_lines(s: &[u8], words: Words) -> Line {
-    let lines = flags(word(s, words, 2));
-    if 15 < lines {
-        return wrong(Fault::Lines, Begun::Whole(Form::ExpectLines), words, 2);
+    if form < BUS_READ {
+        return MISSING;
     }
-    Line::Expect(Expectation::Lines(lines))
+    NONE
 }
 
-fn input(words: Words, source: u64, level: u64) -> Line {
-    match level {
-        0 => Line::Step(Step::Input {
-            source,
-            level: false,
-        }),
-        1 => Line::Step(Step::Input {
-            source,
-            level: true,
-        }),
-        _ => wrong(Fault::Level, Begun::Whole(Form::Input), words, 2),
+// The values of a line of a form whose shape has a letter for each word: w a fixed word, and the kinds of value_of.
+fn shaped(s: &[u8], words: Words, shape: &[u8], values: [u64; 7]) -> Line {
+    let error = count_error(values[0], words.count, shape.len());
+    if error != NONE {
+        return Line {
+            error,
+            place: shape.len(),
+            values,
+        };
     }
+    values_of(s, words, shape, values)
 }
 
-fn bus_read(v: [u64; 6]) -> Line {
-    Line::Step(Step::BusRead {
-        address: v[2],
-        width: v[3],
-    })
+fn parse_words(s: &[u8], words: Words, line: u64) -> Line {
+    let begun = begun_by(s, words);
+    let values = [begun.form, 0, begun.register, 0, 0, 0, line];
+    let shape = entry(
+        b"
+w
+ww
+w
+ww
+w
+w
+wwnn
+wwnnn
+wnwnn
+wnwnnn
+www
+wwwn
+wwwn
+wwwnn
+wnl
+ww
+ww
+w
+wn
+wwn
+wwf
+ww
+ww
+",
+        begun.form,
+    );
+    shaped(s, words, shape, values)
 }
 
-fn bus_write(v: [u64; 6]) -> Line {
-    Line::Step(Step::BusWrite {
-        address: v[2],
-        width: v[3],
-        value: v[4],
-    })
-}
-
-fn private_read(v: [u64; 6]) -> Line {
-    Line::Step(Step::PrivateRead {
-        core: v[1],
-        offset: v[3],
-        width: v[4],
-    })
-}
-
-fn private_write(v: [u64; 6]) -> Line {
-    Line::Step(Step::PrivateWrite {
-        core: v[1],
-        offset: v[3],
-        width: v[4],
-        value: v[5],
-    })
-}
-
-fn bridge_read(register: Register) -> Line {
-    Line::Step(Step::BridgeRead { register })
-}
-
-fn bridge_write(register: Register, value: u64) -> Line {
-    Line::Step(Step::BridgeWrite { register, value })
-}
-
-// The line of a form whose numbers stand at their places.
-fn built(s: &[u8], form: Form, words: Words, v: [u64; 6]) -> Line {
-    match form {
-        Form::BusRead => bus_read(v),
-        Form::BusWrite => bus_write(v),
-        Form::CoreRead => private_read(v),
-        Form::CoreWrite => private_write(v),
-        Form::BridgeRead(register) => bridge_read(register),
-        Form::BridgeWrite(register) => bridge_write(register, v[3]),
-        Form::RouteRead => bridge_read(Register::RouteEntry(v[3])),
-        Form::RouteWrite => bridge_write(Register::RouteEntry(v[3]), v[4]),
-        Form::Input => input(words, v[1], v[2]),
-        Form::WindowOpen => Line::Step(Step::Window { open: true }),
-        Form::WindowClosed => Line::Step(Step::Window { open: false }),
-        Form::Reset => Line::Step(Step::Reset),
-        Form::ExpectValue => Line::Expect(Expectation::Value(v[1])),
-        Form::ExpectRefused => Line::Expect(Expectation::Refused(v[2])),
-        Form::ExpectLines => expect_lines(s, words),
-        Form::ReorderBegin => Line::ReorderBegin,
-        Form::ReorderEnd => Line::ReorderEnd,
+fn textless(error: u64, line: u64) -> Line {
+    Line {
+        error,
+        place: 0,
+        values: [BLANK, 0, 0, 0, 0, 0, line],
     }
 }
 
-// The line of a form, if its words are as many as the form has and its numbers are numbers.
-fn whole(s: &[u8], form: Form, words: Words) -> Line {
-    let layout = layout_of(form);
-    if words.count < layout.words {
-        return missing(Begun::Whole(form));
+pub fn parse(s: &[u8], line: u64) -> Line {
+    if 1024 < s.len() {
+        return textless(TOO_LONG, line);
     }
-    if layout.words < words.count {
-        return wrong(Fault::Unexpected, Begun::Whole(form), words, layout.words);
+    if !text::printable(s) {
+        return textless(UNPRINTABLE, line);
     }
-    let numbers = numbers_of(s, words, layout.numbers);
-    let number = numbers.number;
-    let at = numbers.at;
-    let values = numbers.values;
-    match number {
-        Number::Value(_) => built(s, form, words, values),
-        Number::TooLarge => wrong(Fault::TooLarge, Begun::Whole(form), words, at),
-        Number::Malformed => wrong(Fault::Malformed, Begun::Whole(form), words, at),
-    }
-}
-
-pub fn parse(s: &[u8]) -> Line {
     let words = split(s);
     if words.count == 0 {
-        return Line::Blank;
+        return textless(NONE, line);
     }
-    let begun = begun_by(word(s, words, 0), word(s, words, 1), word(s, words, 2));
-    match begun {
-        Begun::Nothing => no_form(begun, words, 0),
-        Begun::Bus => no_form(begun, words, 1),
-        Begun::Core => no_form(begun, words, 2),
-        Begun::Bridge => no_form(begun, words, 1),
-        Begun::Name => no_form(begun, words, 2),
-        Begun::Window => no_form(begun, words, 1),
-        Begun::Reorder => no_form(begun, words, 1),
-        Begun::Whole(form) => whole(s, form, words),
-    }
+    parse_words(s, words, line)
+}
+
+// The word at fault.
+pub fn word_at(s: &[u8], place: usize) -> &[u8] {
+    word(s, split(s), place)
 }

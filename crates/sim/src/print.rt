@@ -1,270 +1,234 @@
-// The words of the output.
-use crate::parse::Expectation;
-use crate::parse::Fault;
-use crate::parse::Mistake;
-use crate::tables::put_entry;
-use crate::words::Begun;
-use crate::words::Form;
-use crate::words::part;
+// The lines of the output, by their numbers in the tables of put_line and put_error.
+use crate::forms::put_form;
+use crate::output::flushed;
+use crate::run::more;
+use crate::words::entry;
 use text::put;
 use text::put_decimal;
 use text::put_hex;
 
-// A number and a word, as every line of output begins.
-pub fn put_start(out: &mut [u8], at: usize, line: u64, word: &[u8]) -> usize {
-    let numbered = put_decimal(out, at, line);
-    let spaced = put(out, numbered, b" ");
-    put(out, spaced, word)
-}
+// No line: nothing is wrong.
+pub const NONE: u64 = 0;
 
-pub fn put_value(out: &mut [u8], at: usize, value: u64) -> usize {
-    let marked = put(out, at, b"0x");
-    put_hex(out, marked, value)
-}
+pub const OK: u64 = 1;
 
-fn put_flag(out: &mut [u8], at: usize, flag: u64) -> usize {
-    if flag == 0 {
-        return put(out, at, b"0");
+pub const REFUSED: u64 = 2;
+
+pub const MET: u64 = 3;
+
+// The first of those for an expectation that is not met, and of those for a clash.
+pub const FAILED: u64 = 4;
+
+pub const CLASH: u64 = 9;
+
+pub const FREE: u64 = 19;
+
+pub const CLASHES: u64 = 20;
+
+// The last line: with no expectation, and with some.
+pub const COUNTS: u64 = 21;
+
+pub const JUDGED: u64 = 22;
+
+// Before the output of a file of several.
+pub const HEADER: u64 = 23;
+
+// The rest are of the table of put_error. A file that cannot be read: the first, and the one for any other reason.
+pub const NO_FILE: u64 = 1;
+
+pub const UNREAD: u64 = 8;
+
+// A line that cannot be read.
+pub const TOO_LONG: u64 = 9;
+
+pub const UNPRINTABLE: u64 = 10;
+
+// A word that is wrong.
+pub const MISSING: u64 = 11;
+
+pub const UNEXPECTED: u64 = 12;
+
+pub const MALFORMED: u64 = 13;
+
+pub const TOO_LARGE: u64 = 14;
+
+pub const LEVEL: u64 = 15;
+
+pub const LINES: u64 = 16;
+
+// A line that cannot stand where it does.
+pub const EARLY: u64 = 17;
+
+pub const AFTER_ERROR: u64 = 18;
+
+pub const INSIDE: u64 = 19;
+
+pub const UNLISTED: u64 = 20;
+
+pub const FULL: u64 = 21;
+
+pub const NESTED: u64 = 22;
+
+pub const NO_BEGIN: u64 = 23;
+
+pub const NO_END: u64 = 24;
+
+// One line for 0, and another for any other number.
+pub fn line_for(n: u64, zero: u64, other: u64) -> u64 {
+    if n == 0 {
+        return zero;
     }
-    put(out, at, b"1")
+    other
+}
+
+fn flag(lines: u64, line: u64) -> u8 {
+    if lines & line == 0 {
+        return b'0';
+    }
+    b'1'
 }
 
 // The four lines, the highest bit first.
-pub fn put_lines(out: &mut [u8], at: usize, lines: u64) -> usize {
-    let ipi0 = put_flag(out, at, lines & 8);
-    let ipi1 = put_flag(out, ipi0, lines & 4);
-    let bridge0 = put_flag(out, ipi1, lines & 2);
-    put_flag(out, bridge0, lines & 1)
-}
-
-// The outcome of a step: its value where the refusal number is 0, else that number.
-pub fn put_outcome(out: &mut [u8], at: usize, value: u64, refusal: u64) -> usize {
-    if refusal == 0 {
-        return put_value(out, at, value);
-    }
-    put_refused(out, at, refusal)
-}
-
-pub fn put_refused(out: &mut [u8], at: usize, refusal: u64) -> usize {
-    let word = put(out, at, b"refused ");
-    put_decimal(out, word, refusal)
-}
-
-// The answer to a step.
-pub fn put_answer(
-    out: &mut [u8],
-    at: usize,
-    line: u64,
-    value: u64,
-    refusal: u64,
-    lines: u64,
-) -> usize {
-    let start = put_answer_start(out, at, line, refusal);
-    let outcome = put_outcome(out, start, value, refusal);
-    let spaced = put(out, outcome, b" ");
-    let flags = put_lines(out, spaced, lines);
-    put(out, flags, b"\n")
-}
-
-fn put_answer_start(out: &mut [u8], at: usize, line: u64, refusal: u64) -> usize {
-    if refusal == 0 {
-        return put_start(out, at, line, b"ok ");
-    }
-    put_start(out, at, line, b"")
-}
-
-// What is wrong with a word.
-fn put_fault(out: &mut [u8], at: usize, fault: Fault) -> usize {
-    let n = match fault {
-        Fault::Missing => 0,
-        Fault::Unexpected => 1,
-        Fault::Malformed => 2,
-        Fault::TooLarge => 3,
-        Fault::Level => 4,
-        Fault::Lines => 5,
-    };
-    put_entry(
-        out,
-        at,
-        b"a word is missing
- was not expected
- is not a number
- is above 2^64 - 1
- is not a level
- is not four flags
-",
-        n,
-    )
-}
-
-// The word at fault, in quotation marks; nothing where there is none.
-fn put_word(out: &mut [u8], at: usize, word: &[u8]) -> usize {
-    if word.len() == 0 {
-        return at;
-    }
-    let marked = put(out, at, b"\"");
-    let quoted = put(out, marked, word);
-    put(out, quoted, b"\"")
-}
-
-fn form_number(form: Form) -> u64 {
-    match form {
-        Form::BusRead => 7,
-        Form::BusWrite => 8,
-        Form::CoreRead => 9,
-        Form::CoreWrite => 10,
-        Form::BridgeRead(_) => 11,
-        Form::BridgeWrite(_) => 12,
-        Form::RouteRead => 13,
-        Form::RouteWrite => 14,
-        Form::Input => 15,
-        Form::WindowOpen => 16,
-        Form::WindowClosed => 17,
-        Form::Reset => 18,
-        Form::ExpectValue => 19,
-        Form::ExpectRefused => 20,
-        Form::ExpectLines => 21,
-        Form::ReorderBegin => 22,
-        Form::ReorderEnd => 23,
-    }
-}
-
-fn begun_number(begun: Begun) -> u64 {
-    match begun {
-        Begun::Nothing => 0,
-        Begun::Bus => 1,
-        Begun::Core => 2,
-        Begun::Bridge => 3,
-        Begun::Name => 4,
-        Begun::Window => 5,
-        Begun::Reorder => 6,
-        Begun::Whole(form) => form_number(form),
-    }
-}
-
-// What may stand where a word is wrong.
-fn put_expected(out: &mut [u8], at: usize, expected: Begun) -> usize {
-    put_entry(
-        out,
-        at,
-        b"bus, core, bridge, input, window, reset, expect or reorder
-bus read or bus write
-core C read or core C write
-bridge read or bridge write
-INT_MASK, MSI_EN, INTEDGE, SOFT_INT, AUTO_CTRL0, AUTO_CTRL1, INTCLR, INTISR_CHIP0, INTISR_CHIP1, INTIRR or ROUTE_ENTRY
-window open or window closed
-reorder begin or reorder end
-bus read ADDRESS WIDTH
-bus write ADDRESS WIDTH VALUE
-core C read OFFSET WIDTH
-core C write OFFSET WIDTH VALUE
-bridge read NAME
-bridge write NAME VALUE
-bridge read ROUTE_ENTRY SOURCE
-bridge write ROUTE_ENTRY SOURCE VALUE
-input SOURCE LEVEL, where LEVEL is 0 or 1
-window open
-window closed
-reset
-expect VALUE, expect refused N or expect lines BITS
-expect refused N
-expect lines BITS, where BITS is four flags, each 0 or 1
-reorder begin
-reorder end
-",
-        begun_number(expected),
-    )
-}
-
-// What is wrong with a line by itself, and what was expected.
-pub fn put_mistake(out: &mut [u8], at: usize, line: u64, s: &[u8], mistake: Mistake) -> usize {
-    let fault = mistake.fault;
-    let expected = mistake.expected;
-    let start = put_start(out, at, line, b"error ");
-    let word = put_word(out, start, part(s, mistake.start, mistake.end));
-    let wrong = put_fault(out, word, fault);
-    let comma = put(out, wrong, b", expected: ");
-    let whole = put_expected(out, comma, expected);
-    put(out, whole, b"\n")
-}
-
-// Why a line cannot be taken, whatever it says, or cannot stand where it does.
-pub enum Misplaced {
-    TooLong,
-    Unprintable,
-    Early,
-    AfterError,
-    Inside,
-    Unlisted,
-    Full,
-    Nested,
-    NoBegin,
-    NoEnd,
-}
-
-fn put_reason(out: &mut [u8], at: usize, misplaced: Misplaced) -> usize {
-    let n = match misplaced {
-        Misplaced::TooLong => 0,
-        Misplaced::Unprintable => 1,
-        Misplaced::Early => 2,
-        Misplaced::AfterError => 3,
-        Misplaced::Inside => 4,
-        Misplaced::Unlisted => 5,
-        Misplaced::Full => 6,
-        Misplaced::Nested => 7,
-        Misplaced::NoBegin => 8,
-        Misplaced::NoEnd => 9,
-    };
-    put_entry(
-        out,
-        at,
-        b"the line has more than 1024 bytes
-the line has a byte that is neither printable ASCII nor a tab
-expectation before the first step
-expectation after a line in error, expected: a step first
-expectation in a reorder block, expected: a write of the order rule
-no write of the order rule, left out of the reorder block
-more than 256 writes in the reorder block, left out
-reorder begin in a reorder block
-reorder end without reorder begin
-reorder begin without reorder end
-",
-        n,
-    )
-}
-
-pub fn put_misplaced(out: &mut [u8], at: usize, line: u64, misplaced: Misplaced) -> usize {
-    let start = put_start(out, at, line, b"error ");
-    let words = put_reason(out, start, misplaced);
-    put(out, words, b"\n")
-}
-
 fn put_flags(out: &mut [u8], at: usize, lines: u64) -> usize {
-    let word = put(out, at, b"lines ");
-    put_lines(out, word, lines)
+    let flags = [
+        flag(lines, 8),
+        flag(lines, 4),
+        flag(lines, 2),
+        flag(lines, 1),
+    ];
+    put(out, at, &flags)
 }
 
-// What was expected.
-pub fn put_wanted(out: &mut [u8], at: usize, expectation: Expectation) -> usize {
-    match expectation {
-        Expectation::Value(wanted) => put_value(out, at, wanted),
-        Expectation::Refused(wanted) => put_refused(out, at, wanted),
-        Expectation::Lines(wanted) => put_flags(out, at, wanted),
+fn put_byte(out: &mut [u8], at: usize, byte: u8) -> usize {
+    if at < out.len() {
+        out[at] = byte;
+        return at + 1;
+    }
+    at
+}
+
+// Puts what a byte of a pattern stands for: '#' a value in decimal, '$' in hexadecimal, '&' as four flags, '@' the form of that number,
+// '~' a value that is left out, and '*' a word of the script or the name of a file.
+fn put_mark(out: &mut [u8], at: usize, mark: u8, value: u64, text: &[u8]) -> usize {
+    match mark {
+        b'#' => put_decimal(out, at, value),
+        b'$' => put_hex(out, at, value),
+        b'&' => put_flags(out, at, value),
+        b'@' => put_form(out, at, value),
+        b'~' => at,
+        b'*' => put(out, at, text),
+        _ => put_byte(out, at, mark),
     }
 }
 
-// What the last step answered instead.
-pub fn put_got(
+// How many values are used up after a byte of a pattern.
+fn used(n: u64, mark: u8) -> u64 {
+    match mark {
+        b'#' => more(n),
+        b'$' => more(n),
+        b'&' => more(n),
+        b'@' => more(n),
+        b'~' => more(n),
+        _ => n,
+    }
+}
+
+fn put_filled(out: &mut [u8], at: usize, pattern: &[u8], values: [u64; 5], text: &[u8]) -> usize {
+    let mut next = at;
+    let mut n = 0;
+    let mut i = 0;
+    while i < pattern.len() {
+        let mark = pattern[i];
+        next = put_mark(out, next, mark, values[(n % 5) as usize], text);
+        n = used(n, mark);
+        i += 1;
+    }
+    next
+}
+
+// Puts the line of an entry, and writes the buffer out where it is nearly full.
+fn put_entry(
     out: &mut [u8],
     at: usize,
-    expectation: Expectation,
-    value: u64,
-    refusal: u64,
-    lines: u64,
+    table: &[u8],
+    n: u64,
+    values: [u64; 5],
+    text: &[u8],
 ) -> usize {
-    match expectation {
-        Expectation::Value(_) => put_outcome(out, at, value, refusal),
-        Expectation::Refused(_) => put_outcome(out, at, value, refusal),
-        Expectation::Lines(_) => put_flags(out, at, lines),
-    }
+    let end = put_filled(out, at, entry(table, n), values, text);
+    let next = put_byte(out, end, b'\n');
+    flushed(out, next)
+}
+
+// Puts a line with its values and its text.
+pub fn put_line(out: &mut [u8], at: usize, n: u64, values: [u64; 5], text: &[u8]) -> usize {
+    put_entry(
+        out,
+        at,
+        b"
+# ok 0x$ &
+# refused # &
+# met
+# FAILED expected 0x$ got 0x$
+# FAILED expected 0x$ got refused #
+# FAILED expected refused # got 0x$
+# FAILED expected refused # got refused #
+# FAILED expected lines & got lines &
+# clash # # core0.Status~ 0x$
+# clash # # core0.Enable~ 0x$
+# clash # # core0.MailBox# 0x$
+# clash # # core1.Status~ 0x$
+# clash # # core1.Enable~ 0x$
+# clash # # core1.MailBox# 0x$
+# clash # # INT_MASK~ 0x$
+# clash # # MSI_EN~ 0x$
+# clash # # ROUTE_ENTRY # 0x$
+# clash # # gate~ 0x$
+# free #
+# clashes~ #
+# steps, # refused, # errors
+# steps, # refused, # errors, # passed, # failed
+== *
+",
+        n,
+        values,
+        text,
+    )
+}
+
+// Puts the line of a file or a line in error: '@' is the form that was expected.
+pub fn put_error(out: &mut [u8], at: usize, n: u64, values: [u64; 5], text: &[u8]) -> usize {
+    put_entry(
+        out,
+        at,
+        b"
+error *: no such file
+error *: permission denied
+error *: is a directory
+error *: a part of the path is not a directory
+error *: the name is too long
+error *: too many symbolic links
+error *: input or output error
+error *: cannot be read
+# error the line has more than 1024 bytes
+# error the line has a byte that is neither printable ASCII nor a tab
+# error a word is missing, expected: @
+# error \"*\" was not expected, expected: @
+# error \"*\" is not a number, expected: @
+# error \"*\" is above 2^64 - 1, expected: @
+# error \"*\" is not a level, expected: @
+# error \"*\" is not four flags, expected: @
+# error expectation before the first step
+# error expectation after a line in error, expected: a step first
+# error expectation in a reorder block, expected: a write of the order rule
+# error no write of the order rule, left out of the reorder block
+# error more than 256 writes in the reorder block, left out
+# error reorder begin in a reorder block
+# error reorder end without reorder begin
+# error reorder begin without reorder end
+",
+        n,
+        values,
+        text,
+    )
 }

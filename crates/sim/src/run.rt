@@ -1,22 +1,38 @@
 // A script that is being run, one line at a time.
 use crate::block::judge;
 use crate::block::keep;
-use crate::output::flushed;
-use crate::parse::Expectation;
-use crate::parse::Line;
+use crate::forms::BUS_READ;
+use crate::forms::EXPECT_LINES;
+use crate::forms::EXPECT_REFUSED;
+use crate::forms::EXPECT_VALUE;
+use crate::forms::REORDER_BEGIN;
+use crate::forms::REORDER_END;
+use crate::forms::RESET;
 use crate::parse::parse;
-use crate::print::Misplaced;
-use crate::print::put_answer;
-use crate::print::put_got;
-use crate::print::put_misplaced;
-use crate::print::put_mistake;
-use crate::print::put_start;
-use crate::print::put_wanted;
+use crate::parse::word_at;
+use crate::print::AFTER_ERROR;
+use crate::print::CLASHES;
+use crate::print::COUNTS;
+use crate::print::EARLY;
+use crate::print::FAILED;
+use crate::print::FREE;
+use crate::print::FULL;
+use crate::print::INSIDE;
+use crate::print::JUDGED;
+use crate::print::MET;
+use crate::print::NESTED;
+use crate::print::NO_BEGIN;
+use crate::print::NO_END;
+use crate::print::NONE;
+use crate::print::OK;
+use crate::print::REFUSED;
+use crate::print::UNLISTED;
+use crate::print::line_for;
+use crate::print::put_error;
+use crate::print::put_line;
+use crate::step::step_of;
 use device::Answer;
 use device::Device;
-use steps::Step;
-use text::put;
-use text::put_decimal;
 
 pub struct Run {
     pub device: Device,
@@ -38,6 +54,10 @@ pub struct Run {
     pub writes: usize,
     // The place in the output.
     pub at: usize,
+    // How many bytes of the next line are held, whether anything of the script was read, and whether it is over.
+    pub held: usize,
+    pub started: bool,
+    pub over: bool,
 }
 
 // A count of one more; the largest stays.
@@ -55,22 +75,76 @@ fn flags(answer: Answer) -> u64 {
         | answer.bridge1 as u64
 }
 
-fn holds(expectation: Expectation, value: u64, refusal: u64, lines: u64) -> bool {
-    match expectation {
-        Expectation::Value(wanted) => {
-            if refusal == 0 {
-                return value == wanted;
-            }
-            false
-        }
-        Expectation::Refused(wanted) => {
-            if refusal == 0 {
-                return false;
-            }
-            refusal == wanted
-        }
-        Expectation::Lines(wanted) => lines == wanted,
+// The form of the expectation that the last step meets where one of a form is judged.
+fn form_met(form: u64, refusal: u64) -> u64 {
+    if form == EXPECT_LINES {
+        return form;
     }
+    if refusal == 0 {
+        return EXPECT_VALUE;
+    }
+    EXPECT_REFUSED
+}
+
+// What the last step answered, as an expectation of a form says it.
+fn got_of(form: u64, outcome: u64, lines: u64) -> u64 {
+    if form == EXPECT_LINES {
+        return lines;
+    }
+    outcome
+}
+
+// The line for an expectation of a form that the last step does not meet.
+fn line_failed(form: u64, refusal: u64) -> u64 {
+    match form {
+        EXPECT_VALUE => line_for(refusal, FAILED, FAILED + 1),
+        EXPECT_REFUSED => line_for(refusal, FAILED + 2, FAILED + 3),
+        _ => FAILED + 4,
+    }
+}
+
+// Why a step cannot stand where it does: a block has writes of the order rule only.
+fn step_error(begin: u64, listed: bool, writes: usize) -> u64 {
+    if begin == 0 {
+        return NONE;
+    }
+    if !listed {
+        return UNLISTED;
+    }
+    if 255 < writes {
+        return FULL;
+    }
+    NONE
+}
+
+// Why an expectation cannot be judged.
+fn expect_error(begin: u64, steps: u64, after_error: bool) -> u64 {
+    if begin != 0 {
+        return INSIDE;
+    }
+    if steps == 0 {
+        return EARLY;
+    }
+    if after_error {
+        return AFTER_ERROR;
+    }
+    NONE
+}
+
+// The number that an expectation has.
+fn wanted(values: [u64; 7]) -> u64 {
+    if values[0] == EXPECT_VALUE {
+        return values[1];
+    }
+    values[2]
+}
+
+// A count that takes in a number that is not 0.
+fn counted(count: u64, n: u64) -> u64 {
+    if n == 0 {
+        return count;
+    }
+    more(count)
 }
 
 impl Run {
@@ -91,23 +165,22 @@ impl Run {
             begin: 0,
             writes: 0,
             at,
+            held: 0,
+            started: false,
+            over: false,
         }
     }
 
-    fn in_error(mut self) -> Run {
+    fn in_error(mut self, error: u64, form: u64, word: &[u8], out: &mut [u8]) -> Run {
+        self.at = put_error(out, self.at, error, [self.line, form, 0, 0, 0], word);
         self.errors = more(self.errors);
         self.after_error = true;
         self
     }
 
-    pub fn misplaced(mut self, misplaced: Misplaced, out: &mut [u8]) -> Run {
-        self.at = put_misplaced(out, self.at, self.line, misplaced);
-        self.in_error()
-    }
-
-    fn step(mut self, step: Step, out: &mut [u8]) -> Run {
+    fn step(mut self, values: [u64; 7], out: &mut [u8]) -> Run {
         let device = self.device;
-        let stepped = device.step(step);
+        let stepped = device.step(step_of(values));
         let answer = stepped.answer;
         let next = stepped.device;
         let outcome = answer.outcome;
@@ -117,79 +190,53 @@ impl Run {
         self.lines = flags(answer);
         self.steps = more(self.steps);
         self.after_error = false;
-        self.at = put_answer(
+        self.refused = counted(self.refused, self.refusal);
+        self.at = put_line(
             out,
             self.at,
-            self.line,
-            self.value,
-            self.refusal,
-            self.lines,
+            line_for(self.refusal, OK, REFUSED),
+            [self.line, self.value | self.refusal, self.lines, 0, 0],
+            b"",
         );
-        if self.refusal != 0 {
-            self.refused = more(self.refused);
-        }
         self
     }
 
-    fn met(mut self, out: &mut [u8]) -> Run {
-        self.at = put_start(out, self.at, self.line, b"met\n");
-        self.passed = more(self.passed);
+    // Takes a step, or keeps a write of a block, to be judged at the block's end.
+    fn step_or_keep(
+        mut self,
+        values: [u64; 7],
+        block: &mut [[u64; 7]; 256],
+        out: &mut [u8],
+    ) -> Run {
+        if self.begin == 0 {
+            return self.step(values, out);
+        }
+        self.writes = keep(block, self.writes, values);
         self
     }
 
-    fn not_met(mut self, expectation: Expectation, out: &mut [u8]) -> Run {
-        let start = put_start(out, self.at, self.line, b"FAILED expected ");
-        let wanted = put_wanted(out, start, expectation);
-        let word = put(out, wanted, b" got ");
-        let got = put_got(out, word, expectation, self.value, self.refusal, self.lines);
-        self.at = put(out, got, b"\n");
-        self.failed = more(self.failed);
+    fn expect(mut self, form: u64, wanted: u64, out: &mut [u8]) -> Run {
+        let got = got_of(form, self.value | self.refusal, self.lines);
+        let missed = (form_met(form, self.refusal) ^ form) | (got ^ wanted);
+        self.at = put_line(
+            out,
+            self.at,
+            line_for(missed, MET, line_failed(form, self.refusal)),
+            [self.line, wanted, got, 0, 0],
+            b"",
+        );
+        self.passed = counted(self.passed, (missed == 0) as u64);
+        self.failed = counted(self.failed, missed);
         self
     }
 
-    fn expect(self, expectation: Expectation, out: &mut [u8]) -> Run {
-        if self.begin != 0 {
-            return self.misplaced(Misplaced::Inside, out);
-        }
-        if self.steps == 0 {
-            return self.misplaced(Misplaced::Early, out);
-        }
-        if self.after_error {
-            return self.misplaced(Misplaced::AfterError, out);
-        }
-        if holds(expectation, self.value, self.refusal, self.lines) {
-            return self.met(out);
-        }
-        self.not_met(expectation, out)
-    }
-
-    // A write of a block is kept, to be judged at the block's end.
-    fn write(mut self, step: Step, block: &mut [u64; 1536], out: &mut [u8]) -> Run {
-        let device = self.device;
-        if !reorder::listed(device.second_open, step) {
-            return self.misplaced(Misplaced::Unlisted, out);
-        }
-        if 255 < self.writes {
-            return self.misplaced(Misplaced::Full, out);
-        }
-        keep(block, self.writes, step, self.line);
-        self.writes += 1;
-        self
-    }
-
-    fn begin_block(mut self, out: &mut [u8]) -> Run {
-        if self.begin != 0 {
-            return self.misplaced(Misplaced::Nested, out);
-        }
+    fn begin_block(mut self) -> Run {
         self.begin = self.line;
         self.writes = 0;
         self
     }
 
-    fn end_block(mut self, block: &[u64; 1536], out: &mut [u8]) -> Run {
-        if self.begin == 0 {
-            return self.misplaced(Misplaced::NoBegin, out);
-        }
+    fn end_block(mut self, block: &[[u64; 7]; 256], out: &mut [u8]) -> Run {
         let device = self.device;
         let judged = judge(
             block,
@@ -199,42 +246,67 @@ impl Run {
             out,
             self.at,
         );
-        self.at = put_verdict(out, judged.at, self.line, judged.clashes, self.writes);
+        self.at = put_line(
+            out,
+            judged.at,
+            line_for(judged.clashes, FREE, CLASHES),
+            [self.line, self.writes as u64, judged.clashes, 0, 0],
+            b"",
+        );
         self.begin = 0;
         self
     }
 
-    // Runs a line that is short enough and printable.
-    fn run_text(mut self, s: &[u8], block: &mut [u64; 1536], out: &mut [u8]) -> Run {
-        match parse(s) {
-            Line::Blank => self,
-            Line::Step(step) => {
-                if self.begin != 0 {
-                    return self.write(step, block, out);
-                }
-                self.step(step, out)
-            }
-            Line::Expect(expectation) => self.expect(expectation, out),
-            Line::ReorderBegin => self.begin_block(out),
-            Line::ReorderEnd => self.end_block(block, out),
-            Line::Wrong(mistake) => {
-                self.at = put_mistake(out, self.at, self.line, s, mistake);
-                self.in_error()
-            }
+    // Whether a step is a write of the order rule; only a block asks.
+    fn listed(self, values: [u64; 7]) -> bool {
+        if self.begin == 0 {
+            return true;
+        }
+        let device = self.device;
+        clashes::listed(device.second_open, step_of(values))
+    }
+
+    // Why a line cannot stand where it does.
+    fn place_error(self, values: [u64; 7]) -> u64 {
+        match values[0] {
+            BUS_READ..=RESET => step_error(self.begin, self.listed(values), self.writes),
+            EXPECT_VALUE..=EXPECT_LINES => expect_error(self.begin, self.steps, self.after_error),
+            REORDER_BEGIN => line_for(self.begin, NONE, NESTED),
+            REORDER_END => line_for(self.begin, NO_BEGIN, NONE),
+            _ => NONE,
+        }
+    }
+
+    // What is wrong with a line.
+    fn error_of(self, error: u64, values: [u64; 7]) -> u64 {
+        if error == NONE {
+            return self.place_error(values);
+        }
+        error
+    }
+
+    // Runs a line that is right.
+    fn run_values(self, values: [u64; 7], block: &mut [[u64; 7]; 256], out: &mut [u8]) -> Run {
+        match values[0] {
+            BUS_READ..=RESET => self.step_or_keep(values, block, out),
+            EXPECT_VALUE..=EXPECT_LINES => self.expect(values[0], wanted(values), out),
+            REORDER_BEGIN => self.begin_block(),
+            REORDER_END => self.end_block(block, out),
+            _ => self,
         }
     }
 
     // Runs the next line.
-    pub fn run_line(mut self, s: &[u8], block: &mut [u64; 1536], out: &mut [u8]) -> Run {
+    pub fn run_line(mut self, s: &[u8], block: &mut [[u64; 7]; 256], out: &mut [u8]) -> Run {
+        self.held = 0;
         self.line = more(self.line);
-        self.at = flushed(out, self.at);
-        if 1024 < s.len() {
-            return self.misplaced(Misplaced::TooLong, out);
+        let line = parse(s, self.line);
+        let values = line.values;
+        let error = self.error_of(line.error, values);
+        if error != NONE {
+            return self.in_error(error, values[0], word_at(s, line.place), out);
         }
-        if !text::printable(s) {
-            return self.misplaced(Misplaced::Unprintable, out);
-        }
-        self.run_text(s, block, out)
+        self.run_values(values, block, out)
     }
 
     // The end of the script: a block that is open is an error of the line that began it.
@@ -243,48 +315,23 @@ impl Run {
             return self;
         }
         self.line = self.begin;
-        self.misplaced(Misplaced::NoEnd, out)
+        self.in_error(NO_END, 0, b"", out)
     }
 
     // The last line of the output.
-    pub fn put_summary(self, out: &mut [u8]) -> usize {
-        let steps = put_decimal(out, self.at, self.steps);
-        let refused = put_count(out, steps, b" steps, ", self.refused);
-        let errors = put_count(out, refused, b" refused, ", self.errors);
-        let counts = put(out, errors, b" errors");
-        let judged = put_judged(out, counts, self.passed, self.failed);
-        let end = put(out, judged, b"\n");
-        flushed(out, end)
+    pub fn put_counts(self, out: &mut [u8]) -> usize {
+        put_line(
+            out,
+            self.at,
+            line_for(self.passed | self.failed, COUNTS, JUDGED),
+            [
+                self.steps,
+                self.refused,
+                self.errors,
+                self.passed,
+                self.failed,
+            ],
+            b"",
+        )
     }
-}
-
-// Words, and the number after them.
-fn put_count(out: &mut [u8], at: usize, words: &[u8], n: u64) -> usize {
-    let next = put(out, at, words);
-    put_decimal(out, next, n)
-}
-
-// How many expectations passed and failed, once one was judged.
-fn put_judged(out: &mut [u8], at: usize, passed: u64, failed: u64) -> usize {
-    if passed | failed == 0 {
-        return at;
-    }
-    let met = put_count(out, at, b", ", passed);
-    let others = put_count(out, met, b" passed, ", failed);
-    put(out, others, b" failed")
-}
-
-// The verdict on a block.
-fn put_verdict(out: &mut [u8], at: usize, line: u64, clashes: u64, writes: usize) -> usize {
-    if clashes == 0 {
-        return put_numbered(out, at, line, b"free ", writes as u64);
-    }
-    put_numbered(out, at, line, b"clashes ", clashes)
-}
-
-// A line of output that ends with a count.
-fn put_numbered(out: &mut [u8], at: usize, line: u64, word: &[u8], n: u64) -> usize {
-    let start = put_start(out, at, line, word);
-    let count = put_decimal(out, start, n);
-    put(out, count, b"\n")
 }

@@ -3,13 +3,12 @@
 mod mix;
 
 use access::refusal_number;
-use bridge::Bridge;
-use bridge::Register;
+use cores::Core;
 use device::Answer;
 use device::Device;
 use device::Outcome;
-use ipi::Core;
 use libc::STDOUT_FILENO;
+use sources::Bridge;
 use steps::Step;
 
 // The next draw of the xorshift.
@@ -17,23 +16,6 @@ fn drawn(x: u64) -> u64 {
     let a = x ^ (x << 13);
     let b = a ^ (a >> 7);
     b ^ (b << 17)
-}
-
-// A register of the bridge by its number in a row.
-fn register_of(number: u64, source: u64) -> Register {
-    match number {
-        0 => Register::IntMask,
-        1 => Register::MsiEn,
-        2 => Register::IntEdge,
-        3 => Register::SoftInt,
-        4 => Register::AutoCtrl0,
-        5 => Register::AutoCtrl1,
-        6 => Register::IntClr,
-        7 => Register::IntIsrChip0,
-        8 => Register::IntIsrChip1,
-        9 => Register::IntIrr,
-        _ => Register::RouteEntry(source),
-    }
 }
 
 fn access_of(kind: u64, unit: u64, place: u64, width: u64, value: u64) -> Step {
@@ -64,10 +46,10 @@ fn access_of(kind: u64, unit: u64, place: u64, width: u64, value: u64) -> Step {
 fn step_of(kind: u64, unit: u64, place: u64, width: u64, value: u64) -> Step {
     match kind {
         4 => Step::BridgeRead {
-            register: register_of(unit, place),
+            register: bridge::numbered(unit, place),
         },
         5 => Step::BridgeWrite {
-            register: register_of(unit, place),
+            register: bridge::numbered(unit, place),
             value: value,
         },
         6 => Step::Input {
@@ -161,9 +143,8 @@ fn run(rows: &[[u64; 7]; 64], n: u64) -> u64 {
         let row = rows[(x >> 58) as usize];
         let stepped = d.step(row_step(row, x));
         let answer = stepped.answer;
-        let device = stepped.device;
         sum = answer_folded(sum, answer);
-        d = device;
+        d = stepped.device;
     }
     device_folded(sum, d)
 }
@@ -209,19 +190,60 @@ fn initial() -> u8 {
     name[0]
 }
 
-// A function for each mix: the check takes a table as one statement a row, and is slow where one function has many.
+// Puts half a mix into its table: the first at row 0, the last at row 32.
+fn fill(rows: &mut [[u64; 7]; 64], first: usize, half: &[[u64; 7]; 32]) {
+    let mut i = 0;
+    while i < 32 {
+        let row = half[i];
+        rows[(first | i) % 64] = row;
+        i += 1;
+    }
+}
+
+// A function for each half: the check takes a table as one statement a row, and is slow where one function has many.
+fn messages_first(rows: &mut [[u64; 7]; 64]) {
+    let half = mix::MESSAGES_FIRST;
+    fill(rows, 0, &half);
+}
+
+fn messages_last(rows: &mut [[u64; 7]; 64]) {
+    let half = mix::MESSAGES_LAST;
+    fill(rows, 32, &half);
+}
+
+fn bridge_first(rows: &mut [[u64; 7]; 64]) {
+    let half = mix::BRIDGE_FIRST;
+    fill(rows, 0, &half);
+}
+
+fn sparse_last(rows: &mut [[u64; 7]; 64]) {
+    let half = mix::SPARSE_LAST;
+    fill(rows, 32, &half);
+}
+
+fn dense_last(rows: &mut [[u64; 7]; 64]) {
+    let half = mix::DENSE_LAST;
+    fill(rows, 32, &half);
+}
+
 fn messages(n: u64) {
-    let rows = mix::MESSAGES;
+    let mut rows = [[0u64; 7]; 64];
+    messages_first(&mut rows);
+    messages_last(&mut rows);
     print_run(b"messages", &rows, n);
 }
 
 fn sparse(n: u64) {
-    let rows = mix::SPARSE;
+    let mut rows = [[0u64; 7]; 64];
+    bridge_first(&mut rows);
+    sparse_last(&mut rows);
     print_run(b"sparse", &rows, n);
 }
 
 fn dense(n: u64) {
-    let rows = mix::DENSE;
+    let mut rows = [[0u64; 7]; 64];
+    bridge_first(&mut rows);
+    dense_last(&mut rows);
     print_run(b"dense", &rows, n);
 }
 

@@ -1,12 +1,13 @@
 // The kinds of step, and what each does: decided from the step and the window switch alone.
 ghost use mathlib.Core.Path.{_≡_};
-ghost use mathlib.Core.Bool.{not, _&&_};
-ghost use Prim.Native.Nat.{_≤_};
-ghost use Rattle.steps.specs.Decide.{accessPlan, bridgePlan, busPlan, decideOf, inputPlan, privatePlan, targetAt, writePlan};
+ghost use mathlib.Core.Bool.{Bool};
+ghost use Rattle.windows.specs.Table.{busAt, privateAt};
+ghost use Rattle.admission.specs.Admission.{busAdmission, privateAdmission};
+ghost use Rattle.steps.specs.Decide.{accessPlan, admittedPlan, bridgePlan, decideOf, inputPlan, readPlan, writePlan};
+ghost use Rattle.steps.specs.Stages.{judgedPlan, requestPlan};
 use access::Refusal;
 use access::Verdict;
-use windows::Located;
-use windows::Location;
+use admission::Admission;
 use windows::Place;
 
 // One case for each kind of step.
@@ -48,16 +49,90 @@ pub enum Step {
     Reset,
 }
 
-// What a step does.
+// What a step does. Where a case holds a small enum or a flag and a number, the small one stands first: so the cases lie alike in memory, and a
+// plan stays in registers where they meet.
 pub enum Plan {
     Refuse(Refusal),
-    Read { place: Place, width: u64 },
-    WriteCore { core: u64, effect: ipi::Effect },
-    WriteGate { written: bool, on: bool },
+    ReadCore {
+        register: ipi::Register,
+        core: u64,
+        width: u64,
+    },
+    WriteCore {
+        effect: ipi::Effect,
+        core: u64,
+    },
+    ReadGate {
+        high: bool,
+        width: u64,
+    },
+    WriteGate {
+        written: bool,
+        on: bool,
+    },
     ReadBridge(bridge::Register),
-    WriteBridge(bridge::Change),
-    Input { source: u64, level: bool },
+    WriteBridge {
+        register: bridge::Register,
+        value: u64,
+    },
+    Input {
+        level: bool,
+        source: u64,
+    },
     Window(bool),
+    Reset,
+}
+
+// A step, with reads and writes as one kind. The forms between a step and its plan serve speed: every function below has one call site.
+enum Request {
+    Bus {
+        address: u64,
+        width: u64,
+        write: bool,
+        value: u64,
+    },
+    Private {
+        core: u64,
+        offset: u64,
+        width: u64,
+        write: bool,
+        value: u64,
+    },
+    Bridge {
+        register: bridge::Register,
+        write: bool,
+        value: u64,
+    },
+    Input {
+        source: u64,
+        level: bool,
+    },
+    Window {
+        open: bool,
+    },
+    Reset,
+}
+
+// A request whose address, if it has one, has been looked up and judged.
+enum Judged {
+    Access {
+        admission: Admission,
+        width: u64,
+        write: bool,
+        value: u64,
+    },
+    Bridge {
+        register: bridge::Register,
+        write: bool,
+        value: u64,
+    },
+    Input {
+        source: u64,
+        level: bool,
+    },
+    Window {
+        open: bool,
+    },
     Reset,
 }
 
@@ -67,8 +142,8 @@ fn write_plan(place: Place, width: u64, value: u64) -> Plan
 {
     match place {
         Place::Message { core, register } => Plan::WriteCore {
-            core: ipi::target(register, core, value),
             effect: ipi::write_effect(register, width, value),
+            core: ipi::target(register, core, value),
         },
         Place::Gate => Plan::WriteGate {
             written: width == 8,
@@ -81,87 +156,43 @@ fn write_plan(place: Place, width: u64, value: u64) -> Plan
     }
 }
 
+// What an accepted read does.
+fn read_plan(place: Place, width: u64) -> Plan
+    ensures { λ r. ⌜ r ≡ readPlan place width ⌝ }
+{
+    match place {
+        Place::Message { core, register } => Plan::ReadCore {
+            register: register,
+            core: core,
+            width: width,
+        },
+        Place::Gate => Plan::ReadGate {
+            high: false,
+            width: width,
+        },
+        Place::GateHigh => Plan::ReadGate {
+            high: true,
+            width: width,
+        },
+    }
+}
+
 fn access_plan(place: Place, width: u64, write: bool, value: u64) -> Plan
     ensures { λ r. ⌜ r ≡ accessPlan place width write value ⌝ }
 {
     if write {
         write_plan(place, width, value)
     } else {
-        Plan::Read {
-            place: place,
-            width: width,
-        }
+        read_plan(place, width)
     }
 }
 
-// Bus: the first refusal that applies, of 2, 3, 4, 5 and 6.
-fn bus_plan(located: Located, opened: bool, width: u64, write: bool, value: u64) -> Plan
-    ensures { λ r. ⌜ r ≡ busPlan located opened width write value ⌝ }
+fn admitted_plan(admission: Admission, width: u64, write: bool, value: u64) -> Plan
+    ensures { λ r. ⌜ r ≡ admittedPlan admission width write value ⌝ }
 {
-    match located {
-        Located::Nowhere => Plan::Refuse(Refusal::Register),
-        Located::At(location) => bus_located(location, opened, width, write, value),
-    }
-}
-
-fn bus_located(location: Location, opened: bool, width: u64, write: bool, value: u64) -> Plan
-    ensures { λ r. ⌜ r ≡ busPlan (Located.At location) opened width write value ⌝ }
-{
-    let place = location.place;
-    let access = location.access;
-    if closed(location.second, opened) {
-        return Plan::Refuse(Refusal::Window);
-    }
-    match access::judge(access, width, write, value) {
-        Verdict::Refused(refusal) => Plan::Refuse(refusal),
-        Verdict::Accepted => access_plan(place, width, write, value),
-    }
-}
-
-fn closed(second: bool, opened: bool) -> bool
-    ensures { λ r. ⌜ r ≡ (second && not opened) ⌝ }
-{
-    if second { !opened } else { false }
-}
-
-// Private: 1 for the issuing core, then 2, 4, 5, 6, then 1 for the target.
-fn private_plan(core: u64, located: Located, width: u64, write: bool, value: u64) -> Plan
-    ensures { λ r. ⌜ r ≡ privatePlan core located width write value ⌝ }
-{
-    if 1 < core {
-        return Plan::Refuse(Refusal::Core);
-    }
-    match located {
-        Located::Nowhere => Plan::Refuse(Refusal::Register),
-        Located::At(location) => private_located(core, location, width, write, value),
-    }
-}
-
-fn private_located(core: u64, location: Location, width: u64, write: bool, value: u64) -> Plan
-    requires { ⌜ core ≤ 1 ⌝ }
-    ensures { λ r. ⌜ r ≡ privatePlan core (Located.At location) width write value ⌝ }
-{
-    let place = location.place;
-    let access = location.access;
-    match access::judge(access, width, write, value) {
-        Verdict::Refused(refusal) => Plan::Refuse(refusal),
-        Verdict::Accepted => {
-            if 1 < target(place, value) {
-                return Plan::Refuse(Refusal::Core);
-            }
-            access_plan(place, width, write, value)
-        }
-    }
-}
-
-// The core that a write reaches.
-fn target(place: Place, value: u64) -> u64
-    ensures { λ r. ⌜ r ≡ targetAt place value ⌝ }
-{
-    match place {
-        Place::Message { core, register } => ipi::target(register, core, value),
-        Place::Gate => 0,
-        Place::GateHigh => 0,
+    match admission {
+        Admission::Refused(refusal) => Plan::Refuse(refusal),
+        Admission::At(place) => access_plan(place, width, write, value),
     }
 }
 
@@ -173,7 +204,10 @@ fn bridge_plan(register: bridge::Register, write: bool, value: u64) -> Plan
         Verdict::Refused(refusal) => Plan::Refuse(refusal),
         Verdict::Accepted => {
             if write {
-                return Plan::WriteBridge(bridge::write_change(register, value));
+                return Plan::WriteBridge {
+                    register: register,
+                    value: value,
+                };
             }
             Plan::ReadBridge(register)
         }
@@ -188,8 +222,137 @@ fn input_plan(source: u64, level: bool) -> Plan
         return Plan::Refuse(Refusal::Source);
     }
     Plan::Input {
-        source: source,
         level: level,
+        source: source,
+    }
+}
+
+fn on_bus(address: u64, width: u64, write: bool, value: u64) -> Request
+    ensures { λ r. ⌜ r ≡ Request.Bus address width write value ⌝ }
+{
+    Request::Bus {
+        address: address,
+        width: width,
+        write: write,
+        value: value,
+    }
+}
+
+fn in_private(core: u64, offset: u64, width: u64, write: bool, value: u64) -> Request
+    ensures { λ r. ⌜ r ≡ Request.Private core offset width write value ⌝ }
+{
+    Request::Private {
+        core: core,
+        offset: offset,
+        width: width,
+        write: write,
+        value: value,
+    }
+}
+
+fn on_bridge(register: bridge::Register, write: bool, value: u64) -> Request
+    ensures { λ r. ⌜ r ≡ Request.Bridge register write value ⌝ }
+{
+    Request::Bridge {
+        register: register,
+        write: write,
+        value: value,
+    }
+}
+
+// A read is an access that writes nothing.
+fn requested(step: Step) -> Request
+    ensures { λ r. ⌜ ((opened : Bool) → requestPlan opened r ≡ decideOf opened step) ⌝ }
+{
+    match step {
+        Step::BusRead { address, width } => on_bus(address, width, false, 0),
+        Step::BusWrite {
+            address,
+            width,
+            value,
+        } => on_bus(address, width, true, value),
+        Step::PrivateRead {
+            core,
+            offset,
+            width,
+        } => in_private(core, offset, width, false, 0),
+        Step::PrivateWrite {
+            core,
+            offset,
+            width,
+            value,
+        } => in_private(core, offset, width, true, value),
+        Step::BridgeRead { register } => on_bridge(register, false, 0),
+        Step::BridgeWrite { register, value } => on_bridge(register, true, value),
+        Step::Input { source, level } => Request::Input {
+            source: source,
+            level: level,
+        },
+        Step::Window { open } => Request::Window { open: open },
+        Step::Reset => Request::Reset,
+    }
+}
+
+fn bus_judged(address: u64, opened: bool, width: u64, write: bool, value: u64) -> Judged
+    ensures { λ r. ⌜ r ≡ Judged.Access (busAdmission (busAt address) opened width write value) width write value ⌝ }
+{
+    Judged::Access {
+        admission: admission::bus_admission(windows::bus_at(address), opened, width, write, value),
+        width: width,
+        write: write,
+        value: value,
+    }
+}
+
+fn private_judged(core: u64, offset: u64, width: u64, write: bool, value: u64) -> Judged
+    ensures { λ r. ⌜ r ≡ Judged.Access (privateAdmission core (privateAt core offset) width write value) width write value ⌝ }
+{
+    Judged::Access {
+        admission: admission::private_admission(
+            core,
+            windows::private_at(core, offset),
+            width,
+            write,
+            value,
+        ),
+        width: width,
+        write: write,
+        value: value,
+    }
+}
+
+fn judge(request: Request, opened: bool) -> Judged
+    ensures { λ r. ⌜ judgedPlan r ≡ requestPlan opened request ⌝ }
+{
+    match request {
+        Request::Bus {
+            address,
+            width,
+            write,
+            value,
+        } => bus_judged(address, opened, width, write, value),
+        Request::Private {
+            core,
+            offset,
+            width,
+            write,
+            value,
+        } => private_judged(core, offset, width, write, value),
+        Request::Bridge {
+            register,
+            write,
+            value,
+        } => Judged::Bridge {
+            register: register,
+            write: write,
+            value: value,
+        },
+        Request::Input { source, level } => Judged::Input {
+            source: source,
+            level: level,
+        },
+        Request::Window { open } => Judged::Window { open: open },
+        Request::Reset => Judged::Reset,
     }
 }
 
@@ -197,30 +360,20 @@ fn input_plan(source: u64, level: bool) -> Plan
 pub fn decide(step: Step, second_open: bool) -> Plan
     ensures { λ r. ⌜ r ≡ decideOf «second_open» step ⌝ }
 {
-    match step {
-        Step::BusRead { address, width } => {
-            bus_plan(windows::bus_at(address), second_open, width, false, 0)
-        }
-        Step::BusWrite {
-            address,
+    match judge(requested(step), second_open) {
+        Judged::Access {
+            admission,
             width,
+            write,
             value,
-        } => bus_plan(windows::bus_at(address), second_open, width, true, value),
-        Step::PrivateRead {
-            core,
-            offset,
-            width,
-        } => private_plan(core, windows::private_at(core, offset), width, false, 0),
-        Step::PrivateWrite {
-            core,
-            offset,
-            width,
+        } => admitted_plan(admission, width, write, value),
+        Judged::Bridge {
+            register,
+            write,
             value,
-        } => private_plan(core, windows::private_at(core, offset), width, true, value),
-        Step::BridgeRead { register } => bridge_plan(register, false, 0),
-        Step::BridgeWrite { register, value } => bridge_plan(register, true, value),
-        Step::Input { source, level } => input_plan(source, level),
-        Step::Window { open } => Plan::Window(open),
-        Step::Reset => Plan::Reset,
+        } => bridge_plan(register, write, value),
+        Judged::Input { source, level } => input_plan(source, level),
+        Judged::Window { open } => Plan::Window(open),
+        Judged::Reset => Plan::Reset,
     }
 }

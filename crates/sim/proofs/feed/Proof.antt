@@ -7,10 +7,10 @@ use Rattle.sim.proofs.feed.Statement.{statement}
 use Rattle.sim.proofs.feed.Tie as tie
 
 abbrev Inv-loop : tie.InvT-loop
-Inv-loop script₀ chunk n line₀ block₀ out₀ i₀ script line block out i = (length line ≡ length line₀) × (length out ≡ length out₀)
+Inv-loop run₀ bytes line₀ block₀ out₀ i₀ run line block out i = (length line ≡ length line₀) × (length out ≡ length out₀)
 
 abbrev μ-loop : tie.MeasureT-loop
-μ-loop script₀ chunk n line₀ block₀ out₀ i₀ script line block out i = n - i
+μ-loop run₀ bytes line₀ block₀ out₀ i₀ run line block out i = length bytes - i
 
 pub feed-spec : {M : Type 1} → statement M
 feed-spec =
@@ -19,9 +19,6 @@ feed-spec =
     Inv-loop
     μ-loop
     (λ c. search needs)  -- loop-holds
-    (λ c. search needs)  -- same-length
-    (λ c. search needs)  -- same-length-2
-    (λ c. search needs)  -- returns
     (λ c. search needs)  -- shared-slice-read-byte
     (λ c. search needs)  -- add-i
     (λ c κs. search needs)  -- line-text-requires
@@ -31,7 +28,7 @@ feed-spec =
     (λ c κs. search needs)  -- hold-requires
     (λ c. search needs)  -- loop-less-2
     (λ c. search needs)  -- loop-again-2
-    (λ c. search needs)  -- same-length-3
-    (λ c. search needs)  -- same-length-4
-    (λ c. search needs)  -- returns-2
+    (λ c. search needs)  -- same-length
+    (λ c. search needs)  -- same-length-2
+    (λ c. search needs)  -- returns
     )

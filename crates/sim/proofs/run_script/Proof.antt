@@ -6,10 +6,10 @@ use Rattle.sim.proofs.run_script.Statement.{statement}
 use Rattle.sim.proofs.run_script.Tie as tie
 
 abbrev Inv-loop : tie.InvT-loop
-Inv-loop fd name several out₀ at line₀ block₀ script₀ turns₀ out line block script turns = (length line ≡ 1026) × (length out ≡ length out₀)
+Inv-loop fd name several out₀ at line₀ block₀ run₀ turns₀ out line block run turns = (length line ≡ 1026) × (length out ≡ length out₀)
 
 abbrev μ-loop : tie.MeasureT-loop
-μ-loop fd name several out₀ at line₀ block₀ script₀ turns₀ out line block script turns = turns
+μ-loop fd name several out₀ at line₀ block₀ run₀ turns₀ out line block run turns = turns
 
 pub run-script-spec : {M : Type 1} → statement M
 run-script-spec =
@@ -25,7 +25,7 @@ run-script-spec =
     (λ c. search needs)  -- loop-less
     (λ c. search needs)  -- loop-again
     (λ c κs. search needs)  -- ended-requires
-    (λ c κs. search needs)  -- put-summary-requires
+    (λ c κs. search needs)  -- put-counts-requires
     (λ c. search needs)  -- same-length
     (λ c. search needs)  -- returns
     (λ c. search needs)  -- same-length-2

@@ -10,6 +10,7 @@ access-plan-spec =
     tie.close
     (tie.spec
     (λ c κs. search needs)  -- write-plan-requires
+    (λ c κs. search needs)  -- read-plan-requires
     (λ c. search (tests, ← c .write-plan .ensures, c .before .if1 .taken))  -- returns
-    (λ c. search (tests, c .if1 .left))  -- returns-2
+    (λ c. search (tests, ← c .read-plan .ensures, c .before .if1 .left))  -- returns-2
     )

@@ -11,8 +11,7 @@ bridge-plan-spec =
     (λ c κs. search needs)  -- judge-requires
     (λ c. search needs)  -- enum-known-refusal
     (λ c. search needs)  -- enum-told
-    (λ c κs. search needs)  -- write-change-requires
-    (λ c. rw (← c .before .before .before .before .judge .ensures, c .before .before .enum-told .given .1, c .before .if1 .taken, c .write-change .ensures))  -- returns
+    (λ c. rw (← c .before .before .before .judge .ensures, c .before .enum-told .given .1, c .if1 .taken))  -- returns
     (λ c. rw (← c .before .before .before .judge .ensures, c .before .refusal .given .1))  -- returns-2
     (λ c. rw (← c .before .before .before .judge .ensures, c .before .enum-told .given .1, c .if1 .left))  -- returns-3
     )

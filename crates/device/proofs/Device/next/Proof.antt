@@ -1,3 +1,4 @@
+use Rattle.device.proofs.Cores.{applied-chosen}
 use Rattle.device.specs.Step.{nextOf}
 use Rattle.bits.proofs.Tests.{tests}
 use borrow.Author.Needs.{needs}
@@ -11,14 +12,16 @@ next-spec =
     (tie.spec
     (λ c. search needs)  -- enum-told
     (λ c. search needs)  -- enum-told-2
+    (λ c. search needs)  -- enum-told-3
+    (λ c. search needs)  -- enum-told-4
     (λ c. search needs)  -- enum-known-plan
-    (λ c κs. search needs)  -- core-requires
     (λ c κs. search needs)  -- applied-requires
-    (λ c κs. search needs)  -- with-core-requires
+    (λ c κs. search needs)  -- applied-requires-2
+    (λ c κs. search needs)  -- with-cores-requires
     (λ c. search needs)  -- enum-known-plan-2
     (λ c κs. search needs)  -- with-gate-requires
-    (λ c. search needs)  -- enum-told-3
     (λ c. search needs)  -- enum-known-plan-3
+    (λ c κs. search needs)  -- write-change-requires
     (λ c κs. search needs)  -- changed-requires
     (λ c κs. search needs)  -- with-bridge-requires
     (λ c. search needs)  -- enum-known-plan-4
@@ -26,15 +29,16 @@ next-spec =
     (λ c κs. search needs)  -- with-bridge-requires-2
     (λ c. search needs)  -- enum-known-plan-5
     (λ c κs. search needs)  -- with-open-requires
-    (λ c. search needs)  -- enum-told-4
+    (λ c. search needs)  -- enum-told-5
     (λ c κs. search needs)  -- with-levels-requires
     (λ c. search (tests, c .enum-told .given .1))  -- returns
     (λ c. search (tests, c .enum-told2 .given .1))  -- returns-2
-    (λ c. search (tests, ← c .with-core .ensures, ← c .before .applied .ensures, ← c .before .before .core .ensures, c .before .before .before .before .plan .given .1))  -- returns-3
-    (λ c. search (tests, ← c .with-gate .ensures, c .before .before .plan2 .given .1))  -- returns-4
-    (λ c. search (tests, c .enum-told3 .given .1))  -- returns-5
-    (λ c. search (tests, ← c .with-bridge .ensures, ← c .before .changed .ensures, c .before .before .before .before .plan3 .given .1))  -- returns-6
-    (λ c. search (tests, ← c .with-bridge2 .ensures, ← c .before .input .ensures, c .before .before .before .before .plan4 .given .1))  -- returns-7
-    (λ c. search (tests, ← c .with-open .ensures, c .before .before .plan5 .given .1))  -- returns-8
-    (λ c. search (tests, ← c .with-levels .ensures, c .before .before .enum-told4 .given .1))  -- returns-9
+    (λ c. search (tests, c .enum-told3 .given .1))  -- returns-3
+    (λ c. search (tests, c .enum-told4 .given .1))  -- returns-4
+    (λ c. rw (c .before .before .before .before .plan .given .1, ← applied-chosen, c .with-cores .ensures, c .before .applied2 .ensures, c .before .before .applied .ensures))  -- returns-5
+    (λ c. search (tests, ← c .with-gate .ensures, c .before .before .plan2 .given .1))  -- returns-6
+    (λ c. search (tests, ← c .with-bridge .ensures, ← c .before .changed .ensures, ← c .before .before .write-change .ensures, c .before .before .before .before .before .plan3 .given .1))  -- returns-7
+    (λ c. search (tests, ← c .with-bridge2 .ensures, ← c .before .input .ensures, c .before .before .before .before .plan4 .given .1))  -- returns-8
+    (λ c. search (tests, ← c .with-open .ensures, c .before .before .plan5 .given .1))  -- returns-9
+    (λ c. search (tests, ← c .with-levels .ensures, c .before .before .enum-told5 .given .1))  -- returns-10
     )

@@ -19,6 +19,8 @@ judge-after-spec =
     Inv-loop
     μ-loop
     (λ c. search needs)  -- loop-holds
+    (λ c κs. search needs)  -- values-at-requires
+    (λ c κs. search needs)  -- values-at-requires-2
     (λ c κs. search needs)  -- judge-pair-requires
     (λ c. search needs)  -- add-j
     (λ c. search needs)  -- loop-less

@@ -1,0 +1,3 @@
+mod Four
+mod Own
+pub mod Cells

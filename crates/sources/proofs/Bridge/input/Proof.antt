@@ -1,0 +1,15 @@
+use Rattle.sources.specs.Changes.{inputOf}
+use Rattle.bits.proofs.Tests.{tests}
+use borrow.Author.Needs.{needs}
+use Rattle.sources.proofs.Bridge.input.Statement.{statement}
+use Rattle.sources.proofs.Bridge.input.Tie as tie
+
+pub input-spec : {M : Type 1} → statement M
+unfolding inputOf
+input-spec =
+    tie.close
+    (tie.spec
+    (λ c κs. search needs)  -- put-requires
+    (λ c κs. search needs)  -- driven-requires
+    (λ c. search (tests, ← c .driven .ensures, ← c .before .put .ensures))  -- returns
+    )

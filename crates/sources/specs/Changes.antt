@@ -1,0 +1,50 @@
+-- What becomes of the bridge (01, "Bridge registers").
+--   appliedOf   a plain write's effect     changedOf   any accepted write     inputOf   an input change
+--   drivenOf    new levels and soft bits, with the edge-latch rule
+use Prim.Native.Nat.{ℕ}
+use mathlib.Core.Bool.{Bool}
+use mathlib.Core.List.{List}
+use lib.ListN.{getD, set}
+use Rattle.bits.specs.Bits.{merge, put}
+use Rattle.bits.specs.Latch.{latched}
+use Rattle.sources.specs.declared.Bridge.{Bridge}
+use Rattle.bridge.specs.declared.Cell.{Cell}
+use Rattle.bridge.specs.declared.Cell.the-variants.{Mask, Msi, Route}
+use Rattle.bridge.specs.declared.Effect.{Effect}
+use Rattle.bridge.specs.declared.Change.{Change}
+use Rattle.bridge.specs.declared.Change.the-variants.{Plain, Modes, Soft, Clear, Nothing}
+use Rattle.sources.specs.Sources.{driveWord}
+
+-- the bridge with other masks, message enables and routes; and with other modes, latches, soft bits and levels
+abbrev pub withPlain : Bridge → ℕ → ℕ → List ℕ → Bridge
+withPlain b mask msi routes =
+    record { mask = mask; msi = msi; edge = b .edge; latch = b .latch; soft = b .soft; level = b .level; routes = routes }
+
+abbrev pub withDrive : Bridge → ℕ → ℕ → ℕ → ℕ → Bridge
+withDrive b edge latch soft level =
+    record { mask = b .mask; msi = b .msi; edge = edge; latch = latch; soft = soft; level = level; routes = b .routes }
+
+-- the masked bits of one cell take values; a route has two bits
+abbrev pub on : Bridge → Cell → ℕ → ℕ → Bridge
+on b Mask m v = withPlain b (merge 64 (b .mask) m v) (b .msi) (b .routes)
+on b Msi m v = withPlain b (b .mask) (merge 64 (b .msi) m v) (b .routes)
+on b (Route i) m v = withPlain b (b .mask) (b .msi) (set (b .routes) i (merge 2 (getD (b .routes) i 0) m v))
+
+unfoldable pub appliedOf : Bridge → Effect → Bridge
+appliedOf b e = on b (e .cell) (e .mask) (e .bits)
+
+-- in edge mode, when the drive goes from 0 to 1 the latch becomes 1, masked or not
+unfoldable pub drivenOf : Bridge → ℕ → ℕ → Bridge
+drivenOf b level soft =
+    withDrive b (b .edge) (latched 64 (b .edge) (driveWord (b .level) (b .soft)) (driveWord level soft) (b .latch)) soft level
+
+-- the input of source i takes a level
+unfoldable pub inputOf : Bridge → ℕ → Bool → Bridge
+inputOf b i level = drivenOf b (put 64 (b .level) i level) (b .soft)
+
+unfoldable pub changedOf : Bridge → Change → Bridge
+changedOf b (Plain e) = appliedOf b e
+changedOf b (Modes v) = withDrive b v (b .latch) (b .soft) (b .level)  -- INTEDGE leaves the latches as they are
+changedOf b (Soft v) = drivenOf b (b .level) v
+changedOf b (Clear v) = withDrive b (b .edge) (merge 64 (b .latch) v 0) (b .soft) (b .level)  -- a 1 makes the latch 0, in either mode
+changedOf b Nothing = b

@@ -1,0 +1,62 @@
+-- The 64 sources of the bridge, each alike (01, "Bridge registers" and "The four lines"; section 8.1 of the manual). Bit i of each word and
+-- byte i of the routes belong to source i.
+--   drive       its input or its soft bit            pendingAt   a request that is neither masked nor sent as a message
+--   requestAt   what INTIRR shows                    inService   what INTISR_CHIPk shows        lineOf   some source is in service
+--   readOf      what a register reads as
+use Prim.Native.Nat.{ℕ}
+use mathlib.Core.Bool.{Bool, cond, not, _&&_, _||_}
+use lib.ListN.{getD}
+use Rattle.bits.specs.Bits.{bit, word, some}
+use Rattle.bridge.specs.declared.Register.{Register}
+use Rattle.bridge.specs.declared.Register.the-variants.{IntMask, MsiEn, IntEdge, SoftInt, AutoCtrl0, AutoCtrl1, IntClr, IntIsrChip0, IntIsrChip1, IntIrr, RouteEntry}
+use Rattle.sources.specs.declared.Bridge.{Bridge}
+use Rattle.sources.specs.declared.Lines.{Lines}
+
+-- drive of a source = input level or soft bit
+abbrev pub drive : ℕ → ℕ → ℕ → Bool
+drive level soft i = bit level i || bit soft i
+
+-- request (INTIRR) = latch in edge mode, drive in level mode
+abbrev pub requestAt : Bridge → ℕ → Bool
+requestAt b i = cond (bit (b .edge) i) (bit (b .latch) i) (drive (b .level) (b .soft) i)
+
+-- request, and not masked, and message enable 0
+abbrev pub pendingAt : Bridge → ℕ → Bool
+pendingAt b i = requestAt b i && (not (bit (b .mask) i) && not (bit (b .msi) i))
+
+-- INTISR_CHIPk: and route bit k
+abbrev pub inService : Bridge → ℕ → ℕ → Bool
+inService b k i = pendingAt b i && bit (getD (b .routes) i 0) k
+
+-- bridge output k: some bit of INTISR_CHIPk is 1
+unfoldable pub lineOf : Bridge → ℕ → Bool
+lineOf b k = some 64 (inService b k)
+
+abbrev pub linesOf : Bridge → Lines
+linesOf b = record { chip0 = lineOf b 0; chip1 = lineOf b 1 }
+
+-- ---- the same as words
+
+unfoldable pub driveWord : ℕ → ℕ → ℕ
+driveWord level soft = word 64 (drive level soft)
+
+unfoldable pub requestWord : Bridge → ℕ
+requestWord b = word 64 (requestAt b)
+
+unfoldable pub inServiceWord : Bridge → ℕ → ℕ
+inServiceWord b k = word 64 (inService b k)
+
+-- ---- what a register reads as
+
+unfoldable pub readOf : Bridge → Register → ℕ
+readOf b IntMask = b .mask
+readOf b MsiEn = b .msi
+readOf b IntEdge = b .edge
+readOf b SoftInt = b .soft
+readOf b AutoCtrl0 = 0
+readOf b AutoCtrl1 = 0
+readOf b IntClr = 0  -- write only: no read is accepted
+readOf b IntIsrChip0 = inServiceWord b 0
+readOf b IntIsrChip1 = inServiceWord b 1
+readOf b IntIrr = requestWord b
+readOf b (RouteEntry source) = word 2 (bit (getD (b .routes) source 0))  -- bits 7..2 read 0

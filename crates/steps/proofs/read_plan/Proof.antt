@@ -1,0 +1,18 @@
+use Rattle.steps.specs.Decide.{readPlan}
+use Rattle.bits.proofs.Tests.{tests}
+use borrow.Author.Needs.{needs}
+use Rattle.steps.proofs.read_plan.Statement.{statement}
+use Rattle.steps.proofs.read_plan.Tie as tie
+
+pub read-plan-spec : {M : Type 1} → statement M
+unfolding readPlan
+read-plan-spec =
+    tie.close
+    (tie.spec
+    (λ c. search needs)  -- enum-known-place
+    (λ c. search needs)  -- enum-told
+    (λ c. search needs)  -- enum-told-2
+    (λ c. search (tests, c .before .place .given .1))  -- returns
+    (λ c. search (tests, c .enum-told .given .1))  -- returns-2
+    (λ c. search (tests, c .enum-told2 .given .1))  -- returns-3
+    )

@@ -1,0 +1,36 @@
+use Rattle.steps.specs.Decide.{decideOf}
+use Rattle.steps.specs.Stages.{requestPlan}
+use borrow.Author.Needs.{needs}
+use Rattle.steps.proofs.requested.Statement.{statement}
+use Rattle.steps.proofs.requested.Tie as tie
+
+pub requested-spec : {M : Type 1} → statement M
+unfolding decideOf requestPlan
+requested-spec =
+    tie.close
+    (tie.spec
+    (λ c. search needs)  -- enum-known-step
+    (λ c κs. search needs)  -- on-bus-requires
+    (λ c. search needs)  -- enum-known-step-2
+    (λ c κs. search needs)  -- on-bus-requires-2
+    (λ c. search needs)  -- enum-known-step-3
+    (λ c κs. search needs)  -- in-private-requires
+    (λ c. search needs)  -- enum-known-step-4
+    (λ c κs. search needs)  -- in-private-requires-2
+    (λ c. search needs)  -- enum-known-step-5
+    (λ c κs. search needs)  -- on-bridge-requires
+    (λ c. search needs)  -- enum-known-step-6
+    (λ c κs. search needs)  -- on-bridge-requires-2
+    (λ c. search needs)  -- enum-known-step-7
+    (λ c. search needs)  -- enum-known-step-8
+    (λ c. search needs)  -- enum-told
+    (λ c opened. rw (c .on-bus .ensures, c .before .before .step .given .1))  -- returns
+    (λ c opened. rw (c .on-bus2 .ensures, c .before .before .step2 .given .1))  -- returns-2
+    (λ c opened. rw (c .in-private .ensures, c .before .before .step3 .given .1))  -- returns-3
+    (λ c opened. rw (c .in-private2 .ensures, c .before .before .step4 .given .1))  -- returns-4
+    (λ c opened. rw (c .on-bridge .ensures, c .before .before .step5 .given .1))  -- returns-5
+    (λ c opened. rw (c .on-bridge2 .ensures, c .before .before .step6 .given .1))  -- returns-6
+    (λ c opened. rw (c .before .step7 .given .1))  -- returns-7
+    (λ c opened. rw (c .before .step8 .given .1))  -- returns-8
+    (λ c opened. rw (c .enum-told .given .1))  -- returns-9
+    )
