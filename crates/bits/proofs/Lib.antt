@@ -1,11 +1,8 @@
 pub mod Tests
 pub mod Taut
-pub mod Table
 pub mod Below
 pub mod Words
 pub mod Operations
 pub mod Some
-pub mod LowestBit
-pub mod Rest
 pub mod Writes
 pub mod Arrays

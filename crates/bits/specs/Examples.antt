@@ -1,9 +1,7 @@
 -- The definitions compute: examples, each closed by computation alone.
 use mathlib.Core.Path.{_≡_, refl}
 use mathlib.Core.Bool.{true}
-use mathlib.Core.List.{[], _∷_}
 use Rattle.bits.specs.Bits.{bit, word, merge, put, some, first}
-use Rattle.bits.specs.Bytes.{writtenBytes, gathered}
 use Rattle.bits.specs.Latch.{latched}
 
 merged : merge 64 0x1122334455667788 0xffffffff00000000 0xaabbccdd00000000 ≡ 0xaabbccdd55667788
@@ -21,15 +19,6 @@ last-bit = refl
 lowest-bit : first 64 (bit 0x8000000000001000) ≡ 12
 unfolding first bit
 lowest-bit = refl
-
--- mask 0b1000: byte 3 is kept, the three others are written
-three-bytes : writtenBytes 4 8 ≡ 0x00ffffff
-unfolding writtenBytes word bit
-three-bytes = refl
-
-second-bits : gathered 4 (3 ∷ 1 ∷ 2 ∷ 0 ∷ []) 1 ≡ 5
-unfolding gathered word bit
-second-bits = refl
 
 -- of sources 0 to 3 all rise but 3; 0 is in level mode, 2 was latched before
 one-edge : latched 64 0xe 0x8 0xf 0x4 ≡ 0x6

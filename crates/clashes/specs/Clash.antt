@@ -1,10 +1,9 @@
 -- Which two writes clash: the cell and the bits to which they give opposite values, by the same definition of what a write gives that the
 -- order rule uses.
---   listedIn   a step may stand in a list of the order rule     clashOf   where two writes clash
---   ReorderRule   a list may be put in any order exactly if no two of its writes clash
+--   clashOf   where two writes clash     ReorderRule   a list may be put in any order exactly if no two of its writes clash
 use mathlib.Core.Path.{_≡_}
 use mathlib.Core.Logic.{_↔_}
-use mathlib.Core.Bool.{Bool, cond, _&&_}
+use mathlib.Core.Bool.{Bool, cond}
 use mathlib.Core.Option.{Option, none, some}
 use mathlib.Core.List.{List}
 use lib.Dec.{eqb}
@@ -19,10 +18,7 @@ use Rattle.clashes.specs.declared.Given.{Given}
 use Rattle.clashes.specs.declared.Given.the-variants as given
 use Rattle.clashes.specs.declared.Clash.{Clash}
 use Rattle.clashes.specs.declared.Clash.the-variants.{Free, On}
-use Rattle.reorder.specs.Order.{Listed, Whole, effectOf, isWrite, listed, next, same, width}
-
-unfoldable pub listedIn : Bool → Step → Bool
-listedIn opened s = isWrite s && listed (decideOf opened s)
+use Rattle.reorder.specs.Order.{Listed, Whole, effectOf, next, same, width}
 
 -- what a write gives, as the functions pass it on
 abbrev pub ofEffect : Effect → order.Effect Cell

@@ -1,4 +1,4 @@
-// Which writes may stand in a list of the order rule, and where two of them clash.
+// Where two writes of the order rule clash.
 ghost use mathlib.Core.Path.{_≡_};
 ghost use mathlib.Core.Bool.{cond, xor, _&&_};
 ghost use lib.Dec.{ltb};
@@ -6,7 +6,7 @@ ghost use Rattle.bits.specs.Bits.{bit, word};
 ghost use Rattle.cores.specs.Cells as message;
 ghost use Rattle.sources.specs.Cells as source;
 ghost use Rattle.reorder.specs.Order as specs;
-ghost use Rattle.clashes.specs.Clash.{clashOf, clashOn, clashWith, givenOf, listedIn};
+ghost use Rattle.clashes.specs.Clash.{clashOf, clashOn, clashWith, givenOf};
 use reorder::Cell;
 use steps::Plan;
 use steps::Step;
@@ -89,92 +89,6 @@ fn plan_effect(plan: Plan) -> Given
         Plan::Window(_) => Given::Nothing,
         Plan::Reset => Given::Nothing,
     }
-}
-
-// ---- which writes the order rule covers
-
-fn is_write(step: Step) -> bool
-    ensures { λ r. ⌜ r ≡ specs.isWrite step ⌝ }
-{
-    match step {
-        Step::BusWrite {
-            address: _,
-            width: _,
-            value: _,
-        } => true,
-        Step::PrivateWrite {
-            core: _,
-            offset: _,
-            width: _,
-            value: _,
-        } => true,
-        Step::BridgeWrite {
-            register: _,
-            value: _,
-        } => true,
-        Step::BusRead {
-            address: _,
-            width: _,
-        } => false,
-        Step::PrivateRead {
-            core: _,
-            offset: _,
-            width: _,
-        } => false,
-        Step::BridgeRead { register: _ } => false,
-        Step::Input {
-            source: _,
-            level: _,
-        } => false,
-        Step::Window { open: _ } => false,
-        Step::Reset => false,
-    }
-}
-
-fn plain(change: bridge::Change) -> bool
-    ensures { λ r. ⌜ r ≡ specs.plain change ⌝ }
-{
-    match change {
-        bridge::Change::Plain(_) => true,
-        bridge::Change::Modes(_) => false,
-        bridge::Change::Soft(_) => false,
-        bridge::Change::Clear(_) => false,
-        bridge::Change::Nothing => false,
-    }
-}
-
-fn plan_listed(plan: Plan) -> bool
-    ensures { λ r. ⌜ r ≡ specs.listed plan ⌝ }
-{
-    match plan {
-        Plan::Refuse(_) => true,
-        Plan::WriteCore { effect: _, core: _ } => true,
-        Plan::WriteGate { written: _, on: _ } => true,
-        Plan::WriteBridge { register, value } => plain(bridge::write_change(register, value)),
-        Plan::ReadCore {
-            register: _,
-            core: _,
-            width: _,
-        } => false,
-        Plan::ReadGate { high: _, width: _ } => false,
-        Plan::ReadBridge(_) => false,
-        Plan::Input {
-            level: _,
-            source: _,
-        } => false,
-        Plan::Window(_) => false,
-        Plan::Reset => false,
-    }
-}
-
-// A write that may stand in a list of the order rule, refused ones included.
-pub fn listed(second_open: bool, step: Step) -> bool
-    ensures { λ r. ⌜ r ≡ listedIn «second_open» step ⌝ }
-{
-    if is_write(step) {
-        return plan_listed(steps::decide(step, second_open));
-    }
-    false
 }
 
 // ---- where two writes clash

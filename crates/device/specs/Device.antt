@@ -6,12 +6,12 @@ use mathlib.Core.Bool.{Bool, true, false, cond, _&&_}
 use lib.Dec.{eqb}
 use lib.ListN.{replicate}
 use Rattle.cores.specs.declared.Core.{Core}
-use Rattle.cores.specs.Core as ipi
+use Rattle.cores.specs.Core as cores
 use Rattle.sources.specs.declared.Bridge.{Bridge}
 use Rattle.sources.specs.declared.Lines.{Lines}
-use Rattle.sources.specs.Sources as bridge
+use Rattle.sources.specs.Sources as sources
 use Rattle.device.specs.declared.Device.{Device}
-use Rattle.device.specs.declared.Outcome.{Outcome}
+use Rattle.answers.specs.declared.Outcome.{Outcome}
 use Rattle.device.specs.declared.Stepped.{Stepped}
 
 -- ---- the fresh state and the reset values
@@ -75,7 +75,7 @@ gateWeight high width = cond high (2 ^ 16) (cond (eqb width 8) (2 ^ 48) 0)
 
 -- bridge line k at the node: gate is 1 and some bit of INTISR_CHIPk is 1
 abbrev pub bridgeLine : Device → ℕ → Bool
-bridgeLine d k = d .gate && bridge.lineOf (d .bridge) k
+bridgeLine d k = d .gate && sources.lineOf (d .bridge) k
 
 abbrev pub linesOf : Device → Lines
 linesOf d = record { chip0 = bridgeLine d 0; chip1 = bridgeLine d 1 }
@@ -85,8 +85,8 @@ unfoldable pub answeredOf : Device → Outcome → Stepped
 answeredOf d outcome = record {
   answer = record {
     outcome = outcome;
-    ipi0 = ipi.lineOf (d .core0);
-    ipi1 = ipi.lineOf (d .core1);
+    ipi0 = cores.lineOf (d .core0);
+    ipi1 = cores.lineOf (d .core1);
     bridge0 = bridgeLine d 0;
     bridge1 = bridgeLine d 1;
   };

@@ -1,8 +1,9 @@
 // The device: two cores, the bridge, the gate and the switch of the second window; one step at a time, by value.
 ghost use mathlib.Core.Path.{_≡_};
 ghost use Rattle.device.specs.Device.{answeredOf, freshOf, gateRead, gateWeight, linesOf, resetOf, withBridge, withCores, withGate, withOpen};
-ghost use Rattle.device.specs.Step.{nextOf, outcomeData, outcomeNumber, outcomeOf, stepOf};
-use access::Refusal;
+ghost use Rattle.device.specs.Step.{nextOf, outcomeOf, stepOf};
+use answers::Answer;
+use answers::Outcome;
 use cores::Core;
 use sources::Bridge;
 use steps::Plan;
@@ -16,45 +17,9 @@ pub struct Device {
     pub second_open: bool,
 }
 
-pub enum Outcome {
-    Value(u64),
-    Refused(Refusal),
-}
-
-// The outcome beside the four lines after the step.
-pub struct Answer {
-    pub outcome: Outcome,
-    pub ipi0: bool,
-    pub ipi1: bool,
-    pub bridge0: bool,
-    pub bridge1: bool,
-}
-
 pub struct Stepped {
     pub answer: Answer,
     pub device: Device,
-}
-
-impl Outcome {
-    // 01's number of the refusal, and 0 where the step was accepted.
-    pub fn number(self) -> u64
-        ensures { λ r. ⌜ r ≡ outcomeNumber self ⌝ }
-    {
-        match self {
-            Outcome::Value(_) => 0,
-            Outcome::Refused(refusal) => access::refusal_number(refusal),
-        }
-    }
-
-    // The read data: 0 for a refusal.
-    pub fn data(self) -> u64
-        ensures { λ r. ⌜ r ≡ outcomeData self ⌝ }
-    {
-        match self {
-            Outcome::Value(value) => value,
-            Outcome::Refused(_) => 0,
-        }
-    }
 }
 
 // The gate shown as the bit that `weight` has.

@@ -8,8 +8,8 @@ use crate::kinds::bus_read;
 use crate::kinds::bus_write;
 use crate::names::show_name;
 use crate::show;
+use answers::Answer;
 use bridge::Register;
-use device::Answer;
 use device::Device;
 use steps::Step;
 

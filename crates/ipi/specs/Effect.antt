@@ -5,7 +5,7 @@ use Prim.Native.Nat.{ℕ, _*_, _/_, _%_, _^_}
 use mathlib.Core.Bool.{cond}
 use lib.Dec.{eqb}
 use Rattle.bits.specs.Bits.{field}
-use Rattle.bits.specs.Bytes.{writtenBytes}
+use Rattle.lanes.specs.Bytes.{writtenBytes}
 use Rattle.ipi.specs.declared.Register.{Register}
 use Rattle.ipi.specs.declared.Register.the-variants.{Status, Enable, Set, Clear, MailBox, MailBoxHigh, IpiSend, MailSend}
 use Rattle.ipi.specs.declared.Cell.{Cell}

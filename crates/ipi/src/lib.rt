@@ -164,7 +164,7 @@ fn mail_effect(value: u64) -> Effect
 {
     half_effect(
         value / 4 % 8,
-        bits::written_bytes(value / 0x800_0000 % 16),
+        lanes::written_bytes(value / 0x800_0000 % 16),
         value / 0x1_0000_0000 % 0x1_0000_0000,
     )
 }

@@ -7,16 +7,17 @@ use native.Mathlib.Omega.{arith}
 use Rattle.bits.proofs.Some.{some-at, some-of}
 use Rattle.access.specs.declared.Refusal.{Refusal}
 use Rattle.cores.specs.declared.Core.{Core}
-use Rattle.cores.specs.Core as ipi
+use Rattle.cores.specs.Core as cores
 use Rattle.sources.specs.declared.Bridge.{Bridge}
-use Rattle.sources.specs.Sources as bridge
+use Rattle.sources.specs.Sources as sources
 use Rattle.device.specs.declared.Device.{Device}
-use Rattle.device.specs.declared.Outcome.the-variants.{Value, Refused}
+use Rattle.answers.specs.declared.Outcome.the-variants.{Value, Refused}
 use Rattle.steps.specs.declared.Plan.{Plan}
 use Rattle.steps.specs.declared.Plan.the-variants.{Refuse, ReadCore, WriteCore, ReadGate, WriteGate, ReadBridge, WriteBridge, Input, Window, Reset}
 use Rattle.device.specs.Device.{answeredOf, bridgeLine}
 use Rattle.steps.specs.Decide.{decideOf}
-use Rattle.device.specs.Step.{nextOf, outcomeData, outcomeOf, stepOf}
+use Rattle.answers.specs.Outcome.{outcomeData}
+use Rattle.device.specs.Step.{nextOf, outcomeOf, stepOf}
 use Rattle.promises.specs.Promises.{BridgeLines, Cause, IpiLines, RefusedSteps, Separation, Vector}
 
 -- ---- refused steps
@@ -55,8 +56,8 @@ not-part : (a : Bool) → not a ≡ true → a ≡ false
 not-part true e = sym e
 not-part false e = refl
 
-vector : (c : Core) → (ipi.lineOf c ≡ true) ↔ Vector c
-unfolding ipi.lineOf
+vector : (c : Core) → (cores.lineOf c ≡ true) ↔ Vector c
+unfolding cores.lineOf
 vector c = (
   λ e. let w = some-at 32 _ e in let p = and-parts _ _ (w .2) in record { number = w .0; there = w .1; pending = p .0; enabled = p .1 },
   λ v. some-of 32 _ (v .number) (v .there) (rw (v .pending, v .enabled)),
@@ -66,8 +67,8 @@ pub ipi-lines : IpiLines
 unfolding stepOf answeredOf
 ipi-lines d s = (vector _, vector _)
 
-cause : (b : Bridge) (k : ℕ) → (bridge.lineOf b k ≡ true) ↔ Cause b k
-unfolding bridge.lineOf
+cause : (b : Bridge) (k : ℕ) → (sources.lineOf b k ≡ true) ↔ Cause b k
+unfolding sources.lineOf
 cause b k = (
   λ e.
       let w = some-at 64 _ e in

@@ -10,11 +10,12 @@ use Rattle.cores.specs.declared.Core.{Core}
 use Rattle.sources.specs.declared.Bridge.{Bridge}
 use Rattle.bridge.specs.declared.Register.the-variants.{IntMask, IntEdge, IntClr, IntIsrChip0, IntIsrChip1, IntIrr, RouteEntry}
 use Rattle.device.specs.declared.Device.{Device}
-use Rattle.device.specs.declared.Answer.{Answer}
+use Rattle.answers.specs.declared.Answer.{Answer}
 use Rattle.steps.specs.declared.Step.{Step}
 use Rattle.steps.specs.declared.Step.the-variants.{BusRead, BusWrite, PrivateWrite, BridgeRead, BridgeWrite, Input, Window}
 use Rattle.device.specs.Device.{freshOf, withBridge, withCore0, withCore1, withGate, withOpen}
-use Rattle.device.specs.Step.{outcomeData, outcomeNumber, stepOf}
+use Rattle.answers.specs.Outcome.{outcomeData, outcomeNumber}
+use Rattle.device.specs.Step.{stepOf}
 
 -- 01's refusal number (0: accepted), the read value, and the lines: IPI of core 0 and 1, bridge 0 and 1
 pub record Shown : Type 0 where

@@ -14,12 +14,13 @@ use Rattle.ipi.specs.declared.Effect as ipi
 use Rattle.sources.specs.declared.Bridge.{Bridge}
 use Rattle.sources.specs.Sources.{requestAt}
 use Rattle.device.specs.declared.Device.{Device}
-use Rattle.device.specs.declared.Outcome.the-variants.{Refused}
+use Rattle.answers.specs.declared.Outcome.the-variants.{Refused}
 use Rattle.steps.specs.declared.Step.{Step}
 use Rattle.steps.specs.declared.Plan.the-variants.{WriteCore}
 use Rattle.device.specs.Device.{answeredOf}
 use Rattle.steps.specs.Decide.{decideOf}
-use Rattle.device.specs.Step.{outcomeData, stepOf}
+use Rattle.answers.specs.Outcome.{outcomeData}
+use Rattle.device.specs.Step.{stepOf}
 
 -- ---- refused steps
 

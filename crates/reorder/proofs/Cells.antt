@@ -12,7 +12,7 @@ use Rattle.cores.specs.Core as ipi-core
 use Rattle.sources.specs.Changes as bridge-changes
 use Rattle.device.specs.Device.{withBridge, withCore0, withCore1, withGate}
 use Rattle.cores.proofs.Cells.{core-block, core-determined, core-names}
-use Rattle.sources.specs.Cells as br
+use Rattle.sources.specs.Cells as sources
 use Rattle.sources.proofs.Cells.{bridge-block, bridge-determined, bridge-names, rest-stays}
 use Rattle.device.specs.declared.Device.{Device}
 use Rattle.reorder.specs.declared.Cell.{Cell}
@@ -90,16 +90,16 @@ device-names = record { itself = itself; alone = alone }
 -- ---- what plain writes leave: the window switch and the bridge's modes, latches, soft bits and levels
 
 pub record Rest : Type 0 where
-  pub bridge : br.Rest
+  pub bridge : sources.Rest
   pub window : Bool
 
 abbrev pub rest : Device → Rest
-rest d = record { bridge = br.rest (d .bridge); window = d .«second_open» }
+rest d = record { bridge = sources.rest (d .bridge); window = d .«second_open» }
 
 pub rest-on : (d : Device) (to : Cell) (m b : ℕ) → rest (on d to m b) ≡ rest d
 rest-on d (Core0 c) m b = refl
 rest-on d (Core1 c) m b = refl
-rest-on d (Bridge c) m b = ap (λ (r : br.Rest). record { bridge = r; window = d .«second_open» }) (rest-stays (d .bridge) c m b)
+rest-on d (Bridge c) m b = ap (λ (r : sources.Rest). record { bridge = r; window = d .«second_open» }) (rest-stays (d .bridge) c m b)
 rest-on d Gate m b = refl
 
 digit-same : (x y : Bool) → digit x ≡ digit y → x ≡ y

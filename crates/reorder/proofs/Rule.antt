@@ -9,7 +9,7 @@ use Rattle.order.specs.Cells.{Effect, perform}
 use Rattle.order.proofs.Rule.{order-rule}
 use Rattle.order.proofs.Blocks.{block-writes}
 use Rattle.ipi.specs.declared.Effect as ipi-effect
-use Rattle.cores.specs.Core as ipi
+use Rattle.cores.specs.Core as cores
 use Rattle.bridge.specs.declared.Change.the-variants.{Plain, Modes, Soft, Clear, Nothing}
 use Rattle.bridge.specs.declared.Change.{Change}
 use Rattle.bridge.specs.Registers.{changeOf}
@@ -29,11 +29,11 @@ use Rattle.reorder.proofs.Cells.{Rest, apply, device-block, device-dete
 -- ---- a listed plan is its effect
 
 core-on : (d : Device) (c : ℕ) (e : ipi-effect.Effect) → nextOf d (WriteCore e c) ≡ perform apply (effectOf (WriteCore e c)) d
-unfolding nextOf effectOf ipi.appliedOf
+unfolding nextOf effectOf cores.appliedOf
 core-on d c e = by (eqb c 0)
   where
     by : (t : Bool)
-        → cond t (withCore0 d (ipi.on (cond t (d .core0) (d .core1)) (e .cell) (e .mask) (e .bits))) (withCore1 d (ipi.on (cond t (d .core0) (d .core1)) (e .cell) (e .mask) (e .bits)))
+        → cond t (withCore0 d (cores.on (cond t (d .core0) (d .core1)) (e .cell) (e .mask) (e .bits))) (withCore1 d (cores.on (cond t (d .core0) (d .core1)) (e .cell) (e .mask) (e .bits)))
         ≡ on d (cond t (Core0 (e .cell)) (Core1 (e .cell))) (e .mask) (e .bits)
     by true = refl
     by false = refl

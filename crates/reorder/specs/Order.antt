@@ -4,18 +4,18 @@
 use Prim.Native.Nat.{ℕ}
 use mathlib.Core.Path.{_≡_}
 use mathlib.Core.Logic.{_↔_}
-use mathlib.Core.Bool.{Bool, true, false, cond}
+use mathlib.Core.Bool.{Bool, true, false, cond, _&&_}
 use mathlib.Core.Option.{Option, none, some}
 use mathlib.Core.List.{List}
 use lib.Dec.{eqb}
 use Rattle.bits.specs.Bits.{digit}
 use Rattle.order.specs.Order.{All, ConflictFree, OneEnd, Order, run}
 use Rattle.order.specs.Cells as order
-use Rattle.cores.specs.Cells as ipi
+use Rattle.cores.specs.Cells as cores
 use Rattle.bridge.specs.declared.Change.{Change}
 use Rattle.bridge.specs.declared.Change.the-variants.{Plain, Modes, Soft, Clear, Nothing}
 use Rattle.bridge.specs.Registers.{changeOf}
-use Rattle.sources.specs.Cells as br
+use Rattle.sources.specs.Cells as sources
 use Rattle.reorder.specs.declared.Cell.{Cell}
 use Rattle.reorder.specs.declared.Cell.the-variants.{Core0, Core1, Bridge, Gate}
 use Rattle.device.specs.declared.Device.{Device}
@@ -24,28 +24,28 @@ use Rattle.steps.specs.declared.Step.the-variants as step
 use Rattle.steps.specs.declared.Plan.{Plan}
 use Rattle.steps.specs.declared.Plan.the-variants.{Refuse, ReadCore, WriteCore, ReadGate, WriteGate, ReadBridge, WriteBridge, Input, Window, Reset}
 use Rattle.steps.specs.Decide.{decideOf}
-use Rattle.device.specs.declared.Outcome.{Outcome}
+use Rattle.answers.specs.declared.Outcome.{Outcome}
 use Rattle.device.specs.Device.{answeredOf}
 use Rattle.device.specs.Step.{stepOf}
 
 -- ---- the cells: of core 0, of core 1, of the bridge (masks, message enables, routes), and the gate
 
 abbrev pub width : Cell → ℕ
-width (Core0 c) = ipi.width c
-width (Core1 c) = ipi.width c
-width (Bridge c) = br.width c
+width (Core0 c) = cores.width c
+width (Core1 c) = cores.width c
+width (Bridge c) = sources.width c
 width Gate = 1
 
 abbrev pub get : Device → Cell → ℕ
-get d (Core0 c) = ipi.get (d .core0) c
-get d (Core1 c) = ipi.get (d .core1) c
-get d (Bridge c) = br.get (d .bridge) c
+get d (Core0 c) = cores.get (d .core0) c
+get d (Core1 c) = cores.get (d .core1) c
+get d (Bridge c) = sources.get (d .bridge) c
 get d Gate = digit (d .gate)
 
 abbrev pub same : Cell → Cell → Bool
-same (Core0 a) (Core0 b) = ipi.same a b
-same (Core1 a) (Core1 b) = ipi.same a b
-same (Bridge a) (Bridge b) = br.same a b
+same (Core0 a) (Core0 b) = cores.same a b
+same (Core1 a) (Core1 b) = cores.same a b
+same (Bridge a) (Bridge b) = sources.same a b
 same Gate Gate = true
 same (Core0 a) (Core1 b) = false
 same (Core0 a) (Bridge b) = false
@@ -126,6 +126,10 @@ listed (Input level source) = false
 listed (Window on) = false
 listed Reset = false
 
+-- the same as one test, from the window switch and the step alone
+unfoldable pub listedIn : Bool → Step → Bool
+listedIn opened s = isWrite s && listed (decideOf opened s)
+
 abbrev pub Listed : Device → Step → Type 0
 Listed d s = (isWrite s ≡ true) × (listed (decideOf (d .«second_open») s) ≡ true)
 
@@ -136,9 +140,9 @@ next s d = stepOf d s .device
 
 -- the arrays have their lengths, as in every value of the type: see `whole` in src/
 pub record Whole (d : Device) : Type 0 where
-  pub core0 : ipi.Whole (d .core0)
-  pub core1 : ipi.Whole (d .core1)
-  pub bridge : br.Whole (d .bridge)
+  pub core0 : cores.Whole (d .core0)
+  pub core1 : cores.Whole (d .core1)
+  pub bridge : sources.Whole (d .bridge)
 
 -- From any device, all orders of a list of such writes end in one device exactly when no two of them give opposite values to one bit.
 abbrev pub OrderRule : Type 0

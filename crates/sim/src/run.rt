@@ -31,7 +31,7 @@ use crate::print::line_for;
 use crate::print::put_error;
 use crate::print::put_line;
 use crate::step::step_of;
-use device::Answer;
+use answers::Answer;
 use device::Device;
 
 pub struct Run {
@@ -263,7 +263,7 @@ impl Run {
             return true;
         }
         let device = self.device;
-        clashes::listed(device.second_open, step_of(values))
+        reorder::listed(device.second_open, step_of(values))
     }
 
     // Why a line cannot stand where it does.

@@ -2,7 +2,7 @@
 use Prim.Native.Nat.{ℕ, _<_}
 use mathlib.Core.Path.{_≡_, _∙_}
 use Rattle.bits.specs.Bits.{bit, word}
-use Rattle.bits.specs.Bytes.{united}
+use Rattle.lanes.specs.Bytes.{united}
 use Rattle.bits.proofs.Words.{bit-word}
 use Rattle.bits.proofs.Some.{some-cong}
 use Rattle.sources.specs.declared.Bridge.{Bridge}

@@ -97,7 +97,7 @@ impl Bridge {
         ensures { λ r. ⌜ r ≡ inServiceWord self k ⌝ }
     {
         let routes = self.routes;
-        common(self.pending(), bits::gather(routes, k))
+        common(self.pending(), lanes::gather(routes, k))
     }
 
     // Some source is in service for each of the two outputs.
@@ -105,7 +105,7 @@ impl Bridge {
         ensures { λ r. ⌜ r ≡ linesOf self ⌝ }
     {
         let routes = self.routes;
-        let both = bits::united(routes, self.pending()) as u64;
+        let both = lanes::united(routes, self.pending()) as u64;
         Lines {
             chip0: bits::test(both, 0),
             chip1: bits::test(both, 1),

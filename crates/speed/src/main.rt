@@ -3,10 +3,10 @@
 mod mix;
 
 use access::refusal_number;
+use answers::Answer;
+use answers::Outcome;
 use cores::Core;
-use device::Answer;
 use device::Device;
-use device::Outcome;
 use libc::STDOUT_FILENO;
 use sources::Bridge;
 use steps::Step;

@@ -1,6 +1,6 @@
 use Rattle.sources.specs.Sources.{inServiceWord}
 use mathlib.Core.Path.{_∙_}
-use Rattle.bits.specs.Bytes.{gathered}
+use Rattle.lanes.specs.Bytes.{gathered}
 use Rattle.bits.proofs.Words.{word-cong, bit-word}
 use borrow.Author.Needs.{needs}
 use Rattle.sources.proofs.Bridge.in_service.Statement.{statement}

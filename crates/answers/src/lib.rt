@@ -1,0 +1,40 @@
+// What a step answers: read data or a refusal, beside the four lines.
+ghost use mathlib.Core.Path.{_≡_};
+ghost use Rattle.answers.specs.Outcome.{outcomeData, outcomeNumber};
+use access::Refusal;
+
+pub enum Outcome {
+    Value(u64),
+    Refused(Refusal),
+}
+
+// The outcome beside the four lines after the step.
+pub struct Answer {
+    pub outcome: Outcome,
+    pub ipi0: bool,
+    pub ipi1: bool,
+    pub bridge0: bool,
+    pub bridge1: bool,
+}
+
+impl Outcome {
+    // 01's number of the refusal, and 0 where the step was accepted.
+    pub fn number(self) -> u64
+        ensures { λ r. ⌜ r ≡ outcomeNumber self ⌝ }
+    {
+        match self {
+            Outcome::Value(_) => 0,
+            Outcome::Refused(refusal) => access::refusal_number(refusal),
+        }
+    }
+
+    // The read data: 0 for a refusal.
+    pub fn data(self) -> u64
+        ensures { λ r. ⌜ r ≡ outcomeData self ⌝ }
+    {
+        match self {
+            Outcome::Value(value) => value,
+            Outcome::Refused(_) => 0,
+        }
+    }
+}
