@@ -6,45 +6,34 @@ use device::Device;
 use steps::Step;
 
 // How many reads show all that can be read.
-const READS: u64 = 86;
+const READS: u64 = 87;
 
-// Read k: the 64 routes, the other registers of the bridge, the gate, and the cells of both cores.
+// Read k: the 64 routes, the other registers of the bridge by number (INTCLR has no read: both devices refuse it), the gate, and the
+// cells of both cores.
 fn read_at(k: u64) -> Step {
-    if k < 73 {
-        return bridge_read(register_at(k));
+    if k < 64 {
+        return bridge_read(Register::RouteEntry(k));
+    }
+    if k < 74 {
+        return bridge_read(bridge::numbered(k - 64, 0));
     }
     bus_read(address_at(k), width_at(k))
 }
 
-fn register_at(k: u64) -> Register {
-    match k {
-        64 => Register::IntMask,
-        65 => Register::MsiEn,
-        66 => Register::IntEdge,
-        67 => Register::SoftInt,
-        68 => Register::AutoCtrl0,
-        69 => Register::AutoCtrl1,
-        70 => Register::IntIsrChip0,
-        71 => Register::IntIsrChip1,
-        72 => Register::IntIrr,
-        _ => Register::RouteEntry(k),
-    }
-}
-
 fn address_at(k: u64) -> u64 {
     match k {
-        73 => 0x1fe00420,
-        74 => 0x1fe01000,
-        75 => 0x1fe01100,
-        76 => 0x1fe01004,
-        77 => 0x1fe01104,
-        78 => 0x1fe01020,
-        79 => 0x1fe01028,
-        80 => 0x1fe01030,
-        81 => 0x1fe01038,
-        82 => 0x1fe01120,
-        83 => 0x1fe01128,
-        84 => 0x1fe01130,
+        74 => 0x1fe00420,
+        75 => 0x1fe01000,
+        76 => 0x1fe01100,
+        77 => 0x1fe01004,
+        78 => 0x1fe01104,
+        79 => 0x1fe01020,
+        80 => 0x1fe01028,
+        81 => 0x1fe01030,
+        82 => 0x1fe01038,
+        83 => 0x1fe01120,
+        84 => 0x1fe01128,
+        85 => 0x1fe01130,
         _ => 0x1fe01138,
     }
 }
@@ -52,7 +41,7 @@ fn address_at(k: u64) -> u64 {
 // Status and Enable have 4 bytes.
 fn width_at(k: u64) -> u64 {
     match k {
-        74..=77 => 4,
+        75..=78 => 4,
         _ => 8,
     }
 }

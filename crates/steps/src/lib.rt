@@ -83,7 +83,7 @@ pub enum Plan {
     Reset,
 }
 
-// A step, with reads and writes as one kind. The forms between a step and its plan serve speed: every function below has one call site.
+// A step, with reads and writes as one kind. The forms between a step and its plan serve speed: no large function is called from two places.
 enum Request {
     Bus {
         address: u64,
