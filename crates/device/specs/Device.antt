@@ -1,6 +1,6 @@
 -- The device and its four lines (01, "The cells", "Bus window" and "The four lines").
 --   freshOf, resetOf   the fresh state and the reset values      gateRead     the gate as it is read
---   ipiLine, bridgeLine   the four lines                         answeredOf   an outcome beside the lines
+--   bridgeLine         a bridge line at the node                 answeredOf   an outcome beside the four lines
 use Prim.Native.Nat.{ℕ, _^_}
 use mathlib.Core.Bool.{Bool, true, false, cond, _&&_}
 use lib.Dec.{eqb}
@@ -47,6 +47,7 @@ withCore1 d k = record { core0 = d .core0; core1 = k; bridge = d .bridge; gate =
 abbrev pub withCore : Device → ℕ → Core → Device
 withCore d c k = cond (eqb c 0) (withCore0 d k) (withCore1 d k)
 
+-- both at once, as the code writes them
 abbrev pub withCores : Device → Core → Core → Device
 withCores d k l = record { core0 = k; core1 = l; bridge = d .bridge; gate = d .gate; «second_open» = d .«second_open» }
 
