@@ -1,6 +1,6 @@
 -- The laws of table lookup: a moved table, and two tables one after the other, whose rows lie in different ranges.
 use Prim.Native.Nat.{ℕ, _+_, _≤_, _<_}
-use mathlib.Core.Path.{_≡_, refl, ap}
+use mathlib.Core.Path.{_≡_, refl, sym, ap}
 use mathlib.Core.Logic.{_⊎_, inl, inr, ⊎-elim}
 use mathlib.Core.Bool.{Bool, true, false, cond, _&&_}
 use mathlib.Core.List.{List, [], _∷_, _++_}
@@ -8,6 +8,7 @@ use native.Mathlib.Omega.{arith}
 use lib.Dec.{T, eqb, leb, ltb, leb→le, ltb→lt}
 use borrow.Author.Tests.{eq-eqb, ne-eqb, eqb-true, eqb-false}
 use mir.Facts.{and-yes}
+use Rattle.bits.proofs.Cond.{cond-ap}
 use Rattle.access.specs.Table.{Row, lookup, based}
 
 -- an offset elsewhere is not k
@@ -60,8 +61,5 @@ same-sum a b c = by (eqb b c) refl
 pub lookup-based : {A B : Type 0} (none : A) (base : ℕ) (f : A → B) (rs : List (Row A)) (o : ℕ)
     → lookup (f none) (based base f rs) (base + o) ≡ f (lookup none rs o)
 lookup-based none base f [] o = refl
-lookup-based {A} {B} none base f (r ∷ rs) o = rw (same-sum base o (r .offset), lookup-based none base f rs o) (under (eqb o (r .offset)))
-  where
-    under : (t : Bool) → cond t (f (r .entry)) (f (lookup none rs o)) ≡ f (cond t (r .entry) (lookup none rs o))
-    under true = refl
-    under false = refl
+lookup-based none base f (r ∷ rs) o =
+    rw (same-sum base o (r .offset), lookup-based none base f rs o) (sym (cond-ap f (eqb o (r .offset)) (r .entry) (lookup none rs o)))

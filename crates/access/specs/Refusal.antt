@@ -1,11 +1,12 @@
--- The refusals (01, "Refusal numbers"): the number of each, and lists of which the first that applies is given.
---   refusalNumber   01's number        refuseIf   one line of such a list
+-- The refusals (01, "Refusal numbers"): the number of each, and lists of tests of which the first that applies is given.
+--   refusalNumber   01's number     Check, _when_   a refusal and its test     firstOf   the first of a list that applies
 use Prim.Native.Nat.{ℕ}
-use mathlib.Core.Bool.{Bool, true, false}
+use mathlib.Core.Bool.{Bool, cond}
+use mathlib.Core.List.{List, [], _∷_}
 use Rattle.access.specs.declared.Refusal.{Refusal}
 use Rattle.access.specs.declared.Refusal.the-variants.{Core, Register, Window, Width, Right, Value, Source, Distribution}
 use Rattle.access.specs.declared.Verdict.{Verdict}
-use Rattle.access.specs.declared.Verdict.the-variants.{Refused}
+use Rattle.access.specs.declared.Verdict.the-variants.{Accepted, Refused}
 
 unfoldable pub refusalNumber : Refusal → ℕ
 refusalNumber Core = 1  -- the core of a private access, or the target core of a send, is above 1
@@ -17,7 +18,16 @@ refusalNumber Value = 6  -- a written value doesn't fit the width, or a route va
 refusalNumber Source = 7  -- source number above 63
 refusalNumber Distribution = 8  -- a nonzero word written to AUTO_CTRL0 or AUTO_CTRL1
 
--- refused for this reason where the test says so, and else as the rest of the list says
-abbrev pub refuseIf : Bool → Refusal → Verdict → Verdict
-refuseIf true reason rest = Refused reason
-refuseIf false reason rest = rest
+-- a refusal, and the test that says whether it applies
+pub record Check : Type 0 where
+  pub reason : Refusal
+  pub applies : Bool
+
+infix 70 _when_
+abbrev pub _when_ : Refusal → Bool → Check
+reason when applies = record { reason = reason; applies = applies }
+
+-- the first that applies is given
+abbrev pub firstOf : List Check → Verdict
+firstOf [] = Accepted
+firstOf (c ∷ cs) = cond (c .applies) (Refused (c .reason)) (firstOf cs)

@@ -1,7 +1,7 @@
 // What every register block shares: refusals and their numbers, the rights and widths of a register, and the refusals of an access to it.
 ghost use mathlib.Core.Path.{_≡_};
-ghost use Rattle.access.specs.Refusal.{refusalNumber};
-ghost use Rattle.access.specs.Access.{fitting, judged, listed, permitted};
+ghost use Rattle.access.specs.Refusal.{firstOf, refusalNumber};
+ghost use Rattle.access.specs.Access.{accessRefusals, fitting, listed, permitted};
 
 // Why a step is refused, in the order of 01's numbers.
 pub enum Refusal {
@@ -87,7 +87,7 @@ fn fits(width: u64, value: u64) -> bool
 
 // The first refusal that applies, of 4, 5 and 6.
 pub fn judge(access: Access, width: u64, write: bool, value: u64) -> Verdict
-    ensures { λ r. ⌜ r ≡ judged access width write value ⌝ }
+    ensures { λ r. ⌜ r ≡ firstOf (accessRefusals access width write value) ⌝ }
 {
     let rights = access.rights;
     let widths = access.widths;

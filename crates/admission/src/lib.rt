@@ -1,8 +1,9 @@
-// Bus and private accesses: the first refusal that applies, or the place that is reached.
+// Which steps are refused: of each kind the first refusal that applies, or the place that is reached.
 ghost use mathlib.Core.Path.{_≡_};
 ghost use mathlib.Core.Bool.{not, _&&_};
 ghost use Prim.Native.Nat.{_≤_};
-ghost use Rattle.admission.specs.Admission.{busAdmission, privateAdmission, targetAt};
+ghost use Rattle.access.specs.Refusal.{firstOf};
+ghost use Rattle.admission.specs.Refusals.{bridgeRefusals, busAdmission, inputRefusals, privateAdmission, targetAt};
 use access::Refusal;
 use access::Verdict;
 use windows::Located;
@@ -96,4 +97,36 @@ fn target(place: Place, value: u64) -> u64
         Place::Gate => 0,
         Place::GateHigh => 0,
     }
+}
+
+// Bridge: the first refusal that applies, of 7, 5, 6 and 8.
+pub fn bridge_verdict(register: bridge::Register, write: bool, value: u64) -> Verdict
+    ensures { λ r. ⌜ r ≡ firstOf (bridgeRefusals register write value) ⌝ }
+{
+    let row = bridge::row_of(register);
+    let rights = row.rights;
+    let holds = row.holds;
+    if 63 < row.source {
+        return Verdict::Refused(Refusal::Source);
+    }
+    if access::permits(rights, write) {
+        if bridge::fits(holds, value) {
+            if bridge::held(holds, value) {
+                return Verdict::Accepted;
+            }
+            return Verdict::Refused(Refusal::Distribution);
+        }
+        return Verdict::Refused(Refusal::Value);
+    }
+    Verdict::Refused(Refusal::Right)
+}
+
+// Input change: 7.
+pub fn input_verdict(source: u64) -> Verdict
+    ensures { λ r. ⌜ r ≡ firstOf (inputRefusals source) ⌝ }
+{
+    if 63 < source {
+        return Verdict::Refused(Refusal::Source);
+    }
+    Verdict::Accepted
 }

@@ -1,6 +1,6 @@
 // What a step answers: read data or a refusal, beside the four lines.
 ghost use mathlib.Core.Path.{_≡_};
-ghost use Rattle.answers.specs.Outcome.{outcomeData, outcomeNumber};
+ghost use Rattle.answers.specs.Answers.{linesWord, outcomeData, outcomeNumber};
 use access::Refusal;
 
 pub enum Outcome {
@@ -36,5 +36,17 @@ impl Outcome {
             Outcome::Value(value) => value,
             Outcome::Refused(_) => 0,
         }
+    }
+}
+
+impl Answer {
+    // The four lines as one word: bit i is line i, in the order of the answer.
+    pub fn lines(self) -> u64
+        ensures { λ r. ⌜ r ≡ linesWord self ⌝ }
+    {
+        (self.ipi0 as u64)
+            | (self.ipi1 as u64) << 1
+            | (self.bridge0 as u64) << 2
+            | (self.bridge1 as u64) << 3
     }
 }

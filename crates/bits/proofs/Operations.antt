@@ -14,13 +14,10 @@ use mir.Syntax.{Width, w64}
 use mir.Val.{Fits, bits}
 use mir.Facts.{fits-and, fits-or, fits-xor, fits-sub, fits-div, fits-lit}
 use Rattle.bits.specs.Bits.{bit, digit, word}
+use Rattle.bits.proofs.Taut.{taut}
 use Rattle.bits.proofs.Words.{digit-bit, digit-lt, word-lt, word-bit, bit-mod, bit-shr, bit-over, bit-zero, bit-low, bit-high, bit-digit, bit-word, bit-of-word, below, is-word}
 
 -- ---- and, or, exclusive or
-
-eqb-digit : (b : Bool) → eqb (digit b) 1 ≡ b
-eqb-digit true = refl
-eqb-digit false = refl
 
 -- an operation that works on each digit apart is one on bits
 module _ (op : ℕ → ℕ → ℕ) (f : Bool → Bool → Bool)
@@ -35,21 +32,14 @@ module _ (op : ℕ → ℕ → ℕ) (f : Bool → Bool → Bool)
       ∙ same (bit a i) (bit b i)
 
 and-digits : (a b : Bool) → eqb (bitAnd (digit a) (digit b)) 1 ≡ (a && b)
-and-digits true true = refl
-and-digits true false = refl
-and-digits false b = refl
+and-digits = taut 2 _ _ tt
 
 or-digits : (a b : Bool) → eqb (bitOr (digit a) (digit b)) 1 ≡ (a || b)
-or-digits true true = refl
-or-digits true false = refl
-or-digits false b = eqb-digit b
+or-digits = taut 2 _ _ tt
 
 xor-digits : (a b : Bool) → eqb (bitXor (digit a) (digit b)) 1 ≡ xor a b
 unfolding xor
-xor-digits true true = refl
-xor-digits true false = refl
-xor-digits false true = refl
-xor-digits false false = refl
+xor-digits = taut 2 _ _ tt
 
 pub bit-and : (a b i : ℕ) → bit (bitAnd a b) i ≡ (bit a i && bit b i)
 bit-and = bit-op bitAnd _&&_ and-shr and-mod and-digits
@@ -96,16 +86,15 @@ bit-ones j i = ap (λ (n : ℕ). bit n i) (not-zero ∙ not-word j (pow-pos j)) 
     not-zero : 2 ^ j - 1 ≡ (2 ^ j - 1) - 0
     not-zero = omega arith
 
+xor-true : (b : Bool) → xor b true ≡ not b
+unfolding xor
+xor-true = taut 1 _ _ tt
+
 -- exclusive or with all ones is not
 pub xor-ones : (k : ℕ) (f : ℕ → Bool) → bitXor (word k f) (2 ^ k - 1) ≡ word k (λ i. not (f i))
-unfolding xor
 xor-ones k f =
     is-word k (xor-lt k (word k f) (2 ^ k - 1) (word-lt k f) (omega (arith, pow-pos k)))
-    (λ i h. rw (bit-xor, bit-word k f i h, bit-ones, lt-ltb i k h) (flip (f i)))
-  where
-    flip : (b : Bool) → xor b true ≡ not b
-    flip true = refl
-    flip false = refl
+    (λ i h. rw (bit-xor, bit-word k f i h, bit-ones, lt-ltb i k h) (xor-true (f i)))
 
 -- ---- shifts and powers
 
@@ -118,10 +107,6 @@ bit-up c a i = rw (← add-zero (a * 2 ^ c)) (⊎-elim under over (below i c))
 
     over : c ≤ i → bit (a * 2 ^ c + 0) i ≡ (leb c i && bit a (i - c))
     over l = rw (le-leb c i l) (rw (add-sub-of-le l) at (bit-high a c (i - c) (pow-pos c)))
-
--- `a << c` at k bits
-pub bit-shl : (k c a i : ℕ) → i < k → bit (a * 2 ^ c % 2 ^ k) i ≡ (leb c i && bit a (i - c))
-bit-shl k c a i h = bit-mod k (a * 2 ^ c) i h ∙ bit-up c a i
 
 -- one bit: `(b as u64) << j` is `digit b * 2 ^ j % 2 ^ k`, and `1 << j` is `1 * 2 ^ j % 2 ^ k`
 pub bit-place : (b : Bool) (j i : ℕ) → bit (digit b * 2 ^ j) i ≡ (eqb i j && b)

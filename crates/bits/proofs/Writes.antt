@@ -1,65 +1,35 @@
 -- The laws of masked writes, over the width.
 use mathlib.Core.Path.{_≡_, refl, sym, ap, _∙_}
-use mathlib.Core.Bool.{Bool, true, false, cond, _&&_, true≢false}
-use Prim.Native.Nat.{ℕ, _+_, _*_, _≤_, _<_, _^_, _%_, _-_}
-use borrow.Author.Tests.{lt-ltb, ne-eqb}
+use mathlib.Core.Bool.{Bool, true, false, cond}
+use Prim.Native.Nat.{ℕ, _+_, _*_, _≤_, _<_, _^_, _%_}
+use borrow.Author.Tests.{ne-eqb}
 use native.Mathlib.Nat.{mod-lt, one-mul}
 use native.Mathlib.Omega.{arith}
 use lib.Dec.{eqb}
 use lib.Pow.{pow-lt, pow-pos}
-use lib.Bits.{bitAnd}
 use Rattle.bits.specs.Bits.{bit, digit, word, merge, put}
-use Rattle.bits.proofs.Words.{bit-digit, word-cong, word-lt, bit-word, bit-zero, bit-mod, is-word}
-use Rattle.bits.proofs.Operations.{bit-and, bit-one, bit-ones}
-
-pub merge-lt : (k o m v : ℕ) → merge k o m v < 2 ^ k
-unfolding merge
-merge-lt k o m v = word-lt k _
+use Rattle.bits.proofs.Words.{bit-digit, word-cong, bit-word, bit-zero, bit-mod, is-word}
+use Rattle.bits.proofs.Operations.{bit-one}
 
 pub bit-merge : (k o m v i : ℕ) → i < k → bit (merge k o m v) i ≡ cond (bit m i) (bit v i) (bit o i)
 unfolding merge
 bit-merge k o m v i h = bit-word k _ i h
 
-pub merge-none : (k o v : ℕ) → o < 2 ^ k → merge k o 0 v ≡ o
-unfolding merge
-merge-none k o v h = sym (is-word k h (λ i l. search bit-zero))
-
--- writes of other bits change places
-apart : (m n a b o : Bool) → (m && n) ≡ false → cond n b (cond m a o) ≡ cond m a (cond n b o)
-apart true true a b o e = absurd (true≢false e)
-apart true false a b o e = refl
-apart false n a b o e = refl
-
-pub merge-swap : (k o m n a b : ℕ) → bitAnd m n ≡ 0 → merge k (merge k o m a) n b ≡ merge k (merge k o n b) m a
-unfolding merge
-merge-swap k o m n a b e =
-    word-cong k (λ i h. simp bit-word (apart (bit m i) (bit n i) (bit a i) (bit b i) (bit o i) (sym (bit-and m n i) ∙ ap (λ (x : ℕ). bit x i) e ∙ bit-zero i)))
-
--- and so do writes that give the bits they share the same values
+-- writes that give the bits they share the same values change places
 shared : (m n a b o : Bool) → (m ≡ true → n ≡ true → a ≡ b) → cond n b (cond m a o) ≡ cond m a (cond n b o)
 shared true true a b o e = sym (e refl refl)
 shared true false a b o e = refl
 shared false n a b o e = refl
 
-pub merge-agree : (k o m n a b : ℕ) → ((i : ℕ) → i < k → bit m i ≡ true → bit n i ≡ true → bit a i ≡ bit b i)
+pub merge-comm : (k o m n a b : ℕ) → ((i : ℕ) → i < k → bit m i ≡ true → bit n i ≡ true → bit a i ≡ bit b i)
     → merge k (merge k o m a) n b ≡ merge k (merge k o n b) m a
 unfolding merge
-merge-agree k o m n a b e = word-cong k (λ i h. simp bit-word (shared (bit m i) (bit n i) (bit a i) (bit b i) (bit o i) (e i h)))
-
--- a write of no bit below the width
-pub merge-unmasked : (k o m v : ℕ) → o < 2 ^ k → ((i : ℕ) → i < k → bit m i ≡ false) → merge k o m v ≡ o
-unfolding merge
-merge-unmasked k o m v h e = sym (is-word k h (λ i l. rw (e i l)))
+merge-comm k o m n a b e = word-cong k (λ i h. simp bit-word (shared (bit m i) (bit n i) (bit a i) (bit b i) (bit o i) (e i h)))
 
 -- the low bits of a masked write are the masked write of those bits
 pub merge-low : (j k o m v : ℕ) → j ≤ k → merge k o m v % 2 ^ j ≡ merge j o m v
 unfolding merge
 merge-low j k o m v l = is-word j (mod-lt _ (pow-pos j)) (λ i h. bit-mod j (merge k o m v) i h ∙ bit-merge k o m v i (omega arith))
-
--- a write of all bits
-pub merge-all : (k o v : ℕ) → merge k o (2 ^ k - 1) v ≡ word k (bit v)
-unfolding merge
-merge-all k o v = word-cong k (λ i h. rw (bit-ones, lt-ltb i k h))
 
 -- a bit past the end is not there
 pub put-past : (k w j : ℕ) (b : Bool) → k ≤ j → w < 2 ^ k → w ≡ put k w j b

@@ -1,17 +1,13 @@
--- The bridge registers by name (01, "Bridge registers" and "Refusal numbers"; table 8-2 of the manual), in 01's order.
---   registerAt   by number, in 01's order               rowOf      rights, and what a write may hold
---   verdictOf    the first refusal that applies         changeOf   what a write does
+-- The bridge registers by name (01, "Bridge registers"; table 8-2 of the manual), in 01's order.
+--   registerAt   by number, in 01's order                    rowOf         rights, and what a write may hold
+--   sized        a written value fits the register           distributed   it holds no distribution but the fixed one
+--   writtenOf    what a write does
 use Prim.Native.Nat.{ℕ, _^_}
-use mathlib.Core.Bool.{Bool, true, not}
+use mathlib.Core.Bool.{Bool, true}
 use mathlib.Core.List.{List, [], _∷_}
 use lib.Dec.{eqb, leb, ltb}
 use Rattle.access.specs.declared.Rights.{Rights}
 use Rattle.access.specs.declared.Rights.the-variants.{Read, Write, Both}
-use Rattle.access.specs.declared.Refusal.the-variants.{Source, Right, Value, Distribution}
-use Rattle.access.specs.declared.Verdict.{Verdict}
-use Rattle.access.specs.declared.Verdict.the-variants.{Accepted}
-use Rattle.access.specs.Refusal.{refuseIf}
-use Rattle.access.specs.Access.{permitted}
 use Rattle.access.specs.Table as table
 use Rattle.bridge.specs.declared.Register.{Register}
 use Rattle.bridge.specs.declared.Register.the-variants.{IntMask, MsiEn, IntEdge, SoftInt, AutoCtrl0, AutoCtrl1, IntClr, IntIsrChip0, IntIsrChip1, IntIrr, RouteEntry}
@@ -20,8 +16,9 @@ use Rattle.bridge.specs.declared.Holds.the-variants.{Word, Zero, Byte}
 use Rattle.bridge.specs.declared.Row.{Row}
 use Rattle.bridge.specs.declared.Cell.{Cell}
 use Rattle.bridge.specs.declared.Cell.the-variants.{Mask, Msi, Route}
-use Rattle.bridge.specs.declared.Change.{Change}
-use Rattle.bridge.specs.declared.Change.the-variants.{Plain, Modes, Soft, Clear, Nothing}
+use Rattle.bridge.specs.declared.Change.the-variants.{Modes, Soft, Clear, Nothing}
+use Rattle.bridge.specs.declared.Written.{Written}
+use Rattle.bridge.specs.declared.Written.the-variants.{Plain, Changed}
 
 -- by its number, from 0; from 10 on the route of a source
 unfoldable pub registers : List (table.Row Register)
@@ -70,27 +67,18 @@ distributed Word value = true
 distributed Zero value = eqb value 0
 distributed Byte value = true
 
--- 7 (ROUTE_ENTRY only), 5, 6, 8. ROUTE_ENTRY has both rights, so that 5 cannot arise there.
-unfoldable pub verdictOf : Register → Bool → ℕ → Verdict
-verdictOf register write value =
-    refuseIf (ltb 63 (rowOf register .source)) Source
-    (refuseIf (not (permitted (rowOf register .rights) write)) Right
-    (refuseIf (not (sized (rowOf register .holds) value)) Value
-    (refuseIf (not (distributed (rowOf register .holds) value)) Distribution
-    Accepted)))
-
-abbrev plain : Cell → ℕ → ℕ → Change
+abbrev plain : Cell → ℕ → ℕ → Written
 plain cell mask bits = Plain (record { cell = cell; mask = mask; bits = bits })
 
-unfoldable pub changeOf : Register → ℕ → Change
-changeOf IntMask value = plain Mask 0xffffffffffffffff value
-changeOf MsiEn value = plain Msi 0xffffffffffffffff value
-changeOf IntEdge value = Modes value
-changeOf SoftInt value = Soft value
-changeOf AutoCtrl0 value = Nothing
-changeOf AutoCtrl1 value = Nothing
-changeOf IntClr value = Clear value
-changeOf IntIsrChip0 value = Nothing  -- read only, as are the two below: no write is accepted
-changeOf IntIsrChip1 value = Nothing
-changeOf IntIrr value = Nothing
-changeOf (RouteEntry source) value = plain (Route source) 3 value  -- bits 7..2 are ignored
+unfoldable pub writtenOf : Register → ℕ → Written
+writtenOf IntMask value = plain Mask 0xffffffffffffffff value
+writtenOf MsiEn value = plain Msi 0xffffffffffffffff value
+writtenOf IntEdge value = Changed (Modes value)
+writtenOf SoftInt value = Changed (Soft value)
+writtenOf AutoCtrl0 value = Changed Nothing
+writtenOf AutoCtrl1 value = Changed Nothing
+writtenOf IntClr value = Changed (Clear value)
+writtenOf IntIsrChip0 value = Changed Nothing  -- read only, as are the two below: no write is accepted
+writtenOf IntIsrChip1 value = Changed Nothing
+writtenOf IntIrr value = Changed Nothing
+writtenOf (RouteEntry source) value = plain (Route source) 3 value  -- bits 7..2 are ignored

@@ -1,9 +1,7 @@
 // Section 8.1: the registers of the bridge's interrupt controller by name, and what a write to each does.
 ghost use mathlib.Core.Path.{_≡_};
-ghost use Rattle.bridge.specs.Registers.{changeOf, distributed, registerAt, rowOf, sized, verdictOf};
-use access::Refusal;
+ghost use Rattle.bridge.specs.Registers.{distributed, registerAt, rowOf, sized, writtenOf};
 use access::Rights;
-use access::Verdict;
 
 // The registers of table 8-2, in the order of 01.
 pub enum Register {
@@ -48,13 +46,18 @@ pub struct Effect {
     pub bits: u64,
 }
 
-// What an accepted write does.
+// A change that is not plain: the modes, the soft bits, latches cleared, or none.
 pub enum Change {
-    Plain(Effect),
     Modes(u64),
     Soft(u64),
     Clear(u64),
     Nothing,
+}
+
+// What an accepted write does.
+pub enum Written {
+    Plain(Effect),
+    Changed(Change),
 }
 
 // The register of a number: 01's order, from 0. From 10 on it is the route of a source.
@@ -86,7 +89,8 @@ fn row_with(rights: Rights, holds: Holds) -> Row
     }
 }
 
-fn row_of(register: Register) -> Row
+// The row of a register.
+pub fn row_of(register: Register) -> Row
     ensures { λ r. ⌜ r ≡ rowOf register ⌝ }
 {
     match register {
@@ -109,7 +113,7 @@ fn row_of(register: Register) -> Row
 }
 
 // A route is a byte; every other register is a word, as every u64 is.
-fn fits(holds: Holds, value: u64) -> bool
+pub fn fits(holds: Holds, value: u64) -> bool
     ensures { λ r. ⌜ r ≡ sized holds value ⌝ }
 {
     match holds {
@@ -120,7 +124,7 @@ fn fits(holds: Holds, value: u64) -> bool
 }
 
 // Only fixed distribution is held.
-fn held(holds: Holds, value: u64) -> bool
+pub fn held(holds: Holds, value: u64) -> bool
     ensures { λ r. ⌜ r ≡ distributed holds value ⌝ }
 {
     match holds {
@@ -130,53 +134,37 @@ fn held(holds: Holds, value: u64) -> bool
     }
 }
 
-// The first refusal that applies, of 7, 5, 6 and 8.
-pub fn judge(register: Register, write: bool, value: u64) -> Verdict
-    ensures { λ r. ⌜ r ≡ verdictOf register write value ⌝ }
+fn plain(cell: Cell, mask: u64, bits: u64) -> Written
+    ensures { λ r. ⌜ r ≡ Written.Plain (record { cell = cell; mask = mask; bits = bits }) ⌝ }
 {
-    let row = row_of(register);
-    let rights = row.rights;
-    let holds = row.holds;
-    if 63 < row.source {
-        return Verdict::Refused(Refusal::Source);
-    }
-    if access::permits(rights, write) {
-        if fits(holds, value) {
-            if held(holds, value) {
-                return Verdict::Accepted;
-            }
-            return Verdict::Refused(Refusal::Distribution);
-        }
-        return Verdict::Refused(Refusal::Value);
-    }
-    Verdict::Refused(Refusal::Right)
-}
-
-fn effect_on(cell: Cell, mask: u64, bits: u64) -> Change
-    ensures { λ r. ⌜ r ≡ Change.Plain (record { cell = cell; mask = mask; bits = bits }) ⌝ }
-{
-    Change::Plain(Effect {
+    Written::Plain(Effect {
         cell: cell,
         mask: mask,
         bits: bits,
     })
 }
 
+fn changed(change: Change) -> Written
+    ensures { λ r. ⌜ r ≡ Written.Changed change ⌝ }
+{
+    Written::Changed(change)
+}
+
 // What a write to a register does. No write to INTISR_CHIP0, INTISR_CHIP1 or INTIRR is accepted.
-pub fn write_change(register: Register, value: u64) -> Change
-    ensures { λ r. ⌜ r ≡ changeOf register value ⌝ }
+pub fn write(register: Register, value: u64) -> Written
+    ensures { λ r. ⌜ r ≡ writtenOf register value ⌝ }
 {
     match register {
-        Register::IntMask => effect_on(Cell::Mask, 0xffff_ffff_ffff_ffff, value),
-        Register::MsiEn => effect_on(Cell::Msi, 0xffff_ffff_ffff_ffff, value),
-        Register::IntEdge => Change::Modes(value),
-        Register::SoftInt => Change::Soft(value),
-        Register::AutoCtrl0 => Change::Nothing,
-        Register::AutoCtrl1 => Change::Nothing,
-        Register::IntClr => Change::Clear(value),
-        Register::IntIsrChip0 => Change::Nothing,
-        Register::IntIsrChip1 => Change::Nothing,
-        Register::IntIrr => Change::Nothing,
-        Register::RouteEntry(source) => effect_on(Cell::Route(source), 3, value),
+        Register::IntMask => plain(Cell::Mask, 0xffff_ffff_ffff_ffff, value),
+        Register::MsiEn => plain(Cell::Msi, 0xffff_ffff_ffff_ffff, value),
+        Register::IntEdge => changed(Change::Modes(value)),
+        Register::SoftInt => changed(Change::Soft(value)),
+        Register::AutoCtrl0 => changed(Change::Nothing),
+        Register::AutoCtrl1 => changed(Change::Nothing),
+        Register::IntClr => changed(Change::Clear(value)),
+        Register::IntIsrChip0 => changed(Change::Nothing),
+        Register::IntIsrChip1 => changed(Change::Nothing),
+        Register::IntIrr => changed(Change::Nothing),
+        Register::RouteEntry(source) => plain(Cell::Route(source), 3, value),
     }
 }

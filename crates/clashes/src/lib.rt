@@ -1,190 +1,36 @@
 // Where two writes of the order rule clash.
 ghost use mathlib.Core.Path.{_≡_};
 ghost use mathlib.Core.Bool.{cond, xor, _&&_};
-ghost use lib.Dec.{ltb};
+ghost use Prim.Native.Nat.{_≤_};
+ghost use lib.Dec.{eqb, ltb};
 ghost use Rattle.bits.specs.Bits.{bit, word};
-ghost use Rattle.cores.specs.Cells as message;
-ghost use Rattle.sources.specs.Cells as source;
-ghost use Rattle.reorder.specs.Order as specs;
-ghost use Rattle.clashes.specs.Clash.{clashOf, clashOn, clashWith, givenOf};
+ghost use Rattle.reorder.specs.Cells.{messagePlace, sourcePlace, width};
+ghost use Rattle.clashes.specs.Clash.{clashBits, clashIn, clashOf};
+ghost use Rattle.clashes.specs.Private.{spotOf};
 use reorder::Cell;
-use steps::Plan;
+use reorder::Given;
 use steps::Step;
-
-// The bits of the cell that are in mask take the values in bits.
-pub struct Effect {
-    pub cell: Cell,
-    pub mask: u64,
-    pub bits: u64,
-}
-
-pub enum Given {
-    Nothing,
-    Effect(Effect),
-}
 
 pub enum Clash {
     Free,
     On { cell: Cell, bits: u64 },
 }
 
-// ---- what a write gives
+// ---- a cell's place and its width, a line for each
 
-fn effect_on(cell: Cell, mask: u64, bits: u64) -> Given
-    ensures { λ r. ⌜ r ≡ Given.Effect (record { cell = cell; mask = mask; bits = bits }) ⌝ }
-{
-    Given::Effect(Effect {
-        cell: cell,
-        mask: mask,
-        bits: bits,
-    })
+struct Spot {
+    row: u64,
+    index: u64,
+    width: u64,
 }
 
-fn core_effect(core: u64, effect: ipi::Effect) -> Given
-    ensures { λ r. ⌜ r ≡ givenOf (specs.effectOf (Plan.WriteCore effect core)) ⌝ }
+fn at(row: u64, index: u64, width: u64) -> Spot
+    ensures { λ r. ⌜ r ≡ record { row = row; index = index; width = width } ⌝ }
 {
-    let cell = effect.cell;
-    if core == 0 {
-        return effect_on(Cell::Core0(cell), effect.mask, effect.bits);
-    }
-    effect_on(Cell::Core1(cell), effect.mask, effect.bits)
-}
-
-fn change_effect(change: bridge::Change) -> Given
-    ensures { λ r. ⌜ r ≡ givenOf (specs.changeEffect change) ⌝ }
-{
-    match change {
-        bridge::Change::Plain(effect) => {
-            let cell = effect.cell;
-            effect_on(Cell::Bridge(cell), effect.mask, effect.bits)
-        }
-        bridge::Change::Modes(_) => Given::Nothing,
-        bridge::Change::Soft(_) => Given::Nothing,
-        bridge::Change::Clear(_) => Given::Nothing,
-        bridge::Change::Nothing => Given::Nothing,
-    }
-}
-
-fn plan_effect(plan: Plan) -> Given
-    ensures { λ r. ⌜ r ≡ givenOf (specs.effectOf plan) ⌝ }
-{
-    match plan {
-        Plan::WriteCore { effect, core } => core_effect(core, effect),
-        Plan::WriteGate { written, on } => effect_on(Cell::Gate, written as u64, on as u64),
-        Plan::WriteBridge { register, value } => {
-            change_effect(bridge::write_change(register, value))
-        },
-        Plan::Refuse(_) => Given::Nothing,
-        Plan::ReadCore {
-            register: _,
-            core: _,
-            width: _,
-        } => Given::Nothing,
-        Plan::ReadGate { high: _, width: _ } => Given::Nothing,
-        Plan::ReadBridge(_) => Given::Nothing,
-        Plan::Input {
-            level: _,
-            source: _,
-        } => Given::Nothing,
-        Plan::Window(_) => Given::Nothing,
-        Plan::Reset => Given::Nothing,
-    }
-}
-
-// ---- where two writes clash
-
-fn same_message(a: ipi::Cell, b: ipi::Cell) -> bool
-    ensures { λ r. ⌜ r ≡ message.same a b ⌝ }
-{
-    match a {
-        ipi::Cell::Status => match b {
-            ipi::Cell::Status => true,
-            ipi::Cell::Enable => false,
-            ipi::Cell::MailBox(_) => false,
-        },
-        ipi::Cell::Enable => match b {
-            ipi::Cell::Status => false,
-            ipi::Cell::Enable => true,
-            ipi::Cell::MailBox(_) => false,
-        },
-        ipi::Cell::MailBox(i) => match b {
-            ipi::Cell::Status => false,
-            ipi::Cell::Enable => false,
-            ipi::Cell::MailBox(j) => i == j,
-        },
-    }
-}
-
-fn same_source(a: bridge::Cell, b: bridge::Cell) -> bool
-    ensures { λ r. ⌜ r ≡ source.same a b ⌝ }
-{
-    match a {
-        bridge::Cell::Mask => match b {
-            bridge::Cell::Mask => true,
-            bridge::Cell::Msi => false,
-            bridge::Cell::Route(_) => false,
-        },
-        bridge::Cell::Msi => match b {
-            bridge::Cell::Mask => false,
-            bridge::Cell::Msi => true,
-            bridge::Cell::Route(_) => false,
-        },
-        bridge::Cell::Route(i) => match b {
-            bridge::Cell::Mask => false,
-            bridge::Cell::Msi => false,
-            bridge::Cell::Route(j) => i == j,
-        },
-    }
-}
-
-fn same(a: Cell, b: Cell) -> bool
-    ensures { λ r. ⌜ r ≡ specs.same a b ⌝ }
-{
-    match a {
-        Cell::Core0(x) => match b {
-            Cell::Core0(y) => same_message(x, y),
-            Cell::Core1(_) => false,
-            Cell::Bridge(_) => false,
-            Cell::Gate => false,
-        },
-        Cell::Core1(x) => match b {
-            Cell::Core0(_) => false,
-            Cell::Core1(y) => same_message(x, y),
-            Cell::Bridge(_) => false,
-            Cell::Gate => false,
-        },
-        Cell::Bridge(x) => match b {
-            Cell::Core0(_) => false,
-            Cell::Core1(_) => false,
-            Cell::Bridge(y) => same_source(x, y),
-            Cell::Gate => false,
-        },
-        Cell::Gate => match b {
-            Cell::Core0(_) => false,
-            Cell::Core1(_) => false,
-            Cell::Bridge(_) => false,
-            Cell::Gate => true,
-        },
-    }
-}
-
-fn message_width(cell: ipi::Cell) -> u64
-    ensures { λ r. ⌜ r ≡ message.width cell ⌝ }
-{
-    match cell {
-        ipi::Cell::Status => 32,
-        ipi::Cell::Enable => 32,
-        ipi::Cell::MailBox(i) => bounded(i, 4, 64),
-    }
-}
-
-fn source_width(cell: bridge::Cell) -> u64
-    ensures { λ r. ⌜ r ≡ source.width cell ⌝ }
-{
-    match cell {
-        bridge::Cell::Mask => 64,
-        bridge::Cell::Msi => 64,
-        bridge::Cell::Route(i) => bounded(i, 64, 2),
+    Spot {
+        row: row,
+        index: index,
+        width: width,
     }
 }
 
@@ -195,16 +41,49 @@ fn bounded(i: u64, n: u64, width: u64) -> u64
     if i < n { width } else { 0 }
 }
 
-fn width(cell: Cell) -> u64
-    ensures { λ r. ⌜ r ≡ specs.width cell ⌝ }
+fn message_spot(first: u64, cell: ipi::Cell) -> Spot
+    requires { ⌜ first ≤ 9 ⌝ }
+    ensures { λ r. ⌜ r ≡ record { row = messagePlace first cell .row; index = messagePlace first cell .index; width = width (Cell.Core0 cell) } ⌝ }
 {
     match cell {
-        Cell::Core0(c) => message_width(c),
-        Cell::Core1(c) => message_width(c),
-        Cell::Bridge(c) => source_width(c),
-        Cell::Gate => 1,
+        ipi::Cell::Status => at(first, 0, 32),
+        ipi::Cell::Enable => at(first + 1, 0, 32),
+        ipi::Cell::MailBox(i) => at(first + 2, i, bounded(i, 4, 64)),
     }
 }
+
+fn source_spot(first: u64, cell: bridge::Cell) -> Spot
+    requires { ⌜ first ≤ 9 ⌝ }
+    ensures { λ r. ⌜ r ≡ record { row = sourcePlace first cell .row; index = sourcePlace first cell .index; width = width (Cell.Bridge cell) } ⌝ }
+{
+    match cell {
+        bridge::Cell::Mask => at(first, 0, 64),
+        bridge::Cell::Msi => at(first + 1, 0, 64),
+        bridge::Cell::Route(i) => at(first + 2, i, bounded(i, 64, 2)),
+    }
+}
+
+fn spot_of(cell: Cell) -> Spot
+    ensures { λ r. ⌜ r ≡ spotOf cell ⌝ }
+{
+    match cell {
+        Cell::Core0(c) => message_spot(0, c),
+        Cell::Core1(c) => message_spot(3, c),
+        Cell::Bridge(c) => source_spot(6, c),
+        Cell::Gate => at(9, 0, 1),
+    }
+}
+
+fn equal(k: u64, l: u64, i: u64, j: u64) -> bool
+    ensures { λ r. ⌜ r ≡ (eqb k l && eqb i j) ⌝ }
+{
+    if k == l {
+        return i == j;
+    }
+    false
+}
+
+// ---- the bits in which two writes clash
 
 // The bits below a width.
 fn bits_below(width: u64) -> u64
@@ -224,30 +103,41 @@ fn opposite(m: u64, n: u64, a: u64, b: u64, low: u64) -> u64
     m & n & (a ^ b) & low
 }
 
-fn clash_on(e: Effect, f: Effect) -> Clash
-    ensures { λ r. ⌜ r ≡ clashOn e f ⌝ }
+// The bits of two cells in which masks and values clash.
+fn clash_bits(a: Cell, b: Cell, m: u64, n: u64, x: u64, y: u64) -> u64
+    ensures { λ r. ⌜ r ≡ clashBits (Given.Bits a m x) (Given.Bits b n y) ⌝ }
 {
-    let cell = e.cell;
-    let other = f.cell;
-    if same(cell, other) {
-        let bits = opposite(e.mask, f.mask, e.bits, f.bits, bits_below(width(cell)));
-        if bits == 0 {
-            return Clash::Free;
-        }
-        return Clash::On {
-            cell: cell,
-            bits: bits,
-        };
+    let s = spot_of(a);
+    let t = spot_of(b);
+    if equal(s.row, t.row, s.index, t.index) {
+        return opposite(m, n, x, y, bits_below(s.width));
     }
-    Clash::Free
+    0
 }
 
-fn clash_with(e: Effect, given: Given) -> Clash
-    ensures { λ r. ⌜ r ≡ clashWith e given ⌝ }
+fn clash_in(cell: Cell, bits: u64) -> Clash
+    ensures { λ r. ⌜ r ≡ cond (eqb bits 0) Clash.Free (Clash.On cell bits) ⌝ }
+{
+    if bits == 0 {
+        return Clash::Free;
+    }
+    Clash::On {
+        cell: cell,
+        bits: bits,
+    }
+}
+
+fn clash_with(cell: Cell, mask: u64, bits: u64, given: Given) -> Clash
+    ensures { λ r. ⌜ r ≡ clashIn (Given.Bits cell mask bits) (clashBits (Given.Bits cell mask bits) given) ⌝ }
 {
     match given {
+        Given::NotListed => Clash::Free,
         Given::Nothing => Clash::Free,
-        Given::Effect(f) => clash_on(e, f),
+        Given::Bits {
+            cell: other,
+            mask: n,
+            bits: y,
+        } => clash_in(cell, clash_bits(cell, other, mask, n, bits, y)),
     }
 }
 
@@ -255,9 +145,10 @@ fn clash_with(e: Effect, given: Given) -> Clash
 pub fn find_clash(second_open: bool, a: Step, b: Step) -> Clash
     ensures { λ r. ⌜ r ≡ clashOf «second_open» a b ⌝ }
 {
-    let other = plan_effect(steps::decide(b, second_open));
-    match plan_effect(steps::decide(a, second_open)) {
+    let other = reorder::bits_given(second_open, b);
+    match reorder::bits_given(second_open, a) {
+        Given::NotListed => Clash::Free,
         Given::Nothing => Clash::Free,
-        Given::Effect(e) => clash_with(e, other),
+        Given::Bits { cell, mask, bits } => clash_with(cell, mask, bits, other),
     }
 }

@@ -1,3 +1,2 @@
 mod Four
 mod Own
-pub mod Cells

@@ -1,31 +1,26 @@
 -- A step of the device (01, "Kinds of step"): decided, done, answered.
 --   outcomeOf   what the step answers         nextOf          the device after it
 --   stepOf      both, with the four lines
-use Prim.Native.Nat.{ℕ}
 use Rattle.cores.specs.Core as cores
-use Rattle.bridge.specs.Registers.{changeOf}
-use Rattle.sources.specs.Sources as sources
-use Rattle.sources.specs.Changes.{changedOf, inputOf}
+use Rattle.tree.specs.Tree as tree
 use Rattle.device.specs.declared.Device.{Device}
 use Rattle.steps.specs.declared.Step.{Step}
 use Rattle.device.specs.declared.Stepped.{Stepped}
 use Rattle.answers.specs.declared.Outcome.{Outcome}
 use Rattle.answers.specs.declared.Outcome.the-variants.{Value, Refused}
 use Rattle.steps.specs.declared.Plan.{Plan}
-use Rattle.steps.specs.declared.Plan.the-variants.{Refuse, ReadCore, WriteCore, ReadGate, WriteGate, ReadBridge, WriteBridge, Input, Window, Reset}
-use Rattle.device.specs.Device.{answeredOf, coreOf, gateRead, gateWeight, resetOf, withBridge, withCore, withGate, withOpen}
+use Rattle.steps.specs.declared.Plan.the-variants.{Refuse, ReadCore, WriteCore, ReadTree, WriteTree, ChangeTree, Window, Reset}
+use Rattle.device.specs.Device.{answeredOf, coreOf, resetOf, withCore, withOpen, withTree}
 use Rattle.steps.specs.Decide.{decideOf}
 
 -- the read value of any accepted step other than a read is 0
 unfoldable pub outcomeOf : Device → Plan → Outcome
 outcomeOf d (Refuse reason) = Refused reason
 outcomeOf d (ReadCore register core width) = Value (cores.readOf (coreOf d core) register width)
-outcomeOf d (ReadGate high width) = Value (gateRead (d .gate) (gateWeight high width))
-outcomeOf d (ReadBridge register) = Value (sources.readOf (d .bridge) register)
+outcomeOf d (ReadTree read) = Value (tree.readOf (d .tree) read)
 outcomeOf d (WriteCore effect core) = Value 0
-outcomeOf d (WriteGate written on) = Value 0
-outcomeOf d (WriteBridge register value) = Value 0
-outcomeOf d (Input level source) = Value 0
+outcomeOf d (WriteTree write) = Value 0
+outcomeOf d (ChangeTree change) = Value 0
 outcomeOf d (Window opened) = Value 0
 outcomeOf d Reset = Value 0
 
@@ -33,14 +28,12 @@ outcomeOf d Reset = Value 0
 unfoldable pub nextOf : Device → Plan → Device
 nextOf d (Refuse reason) = d
 nextOf d (ReadCore register core width) = d
-nextOf d (ReadGate high width) = d
-nextOf d (ReadBridge register) = d
+nextOf d (ReadTree read) = d
 nextOf d (WriteCore effect core) = withCore d core (cores.appliedOf (coreOf d core) effect)
-nextOf d (WriteGate written on) = withGate d written on
-nextOf d (WriteBridge register value) = withBridge d (changedOf (d .bridge) (changeOf register value))
-nextOf d (Input level source) = withBridge d (inputOf (d .bridge) source level)
+nextOf d (WriteTree write) = withTree d (tree.writtenOf (d .tree) write)
+nextOf d (ChangeTree change) = withTree d (tree.changedOf (d .tree) change)
 nextOf d (Window opened) = withOpen d opened
-nextOf d Reset = resetOf (d .bridge .level)
+nextOf d Reset = resetOf d
 
 unfoldable pub stepOf : Device → Step → Stepped
 stepOf d s =

@@ -1,42 +1,25 @@
-// The device: two cores, the bridge, the gate and the switch of the second window; one step at a time, by value.
+// The device: two cores, the interrupt tree and the switch of the second window; one step at a time, by value.
 ghost use mathlib.Core.Path.{_≡_};
-ghost use Rattle.device.specs.Device.{answeredOf, freshOf, gateRead, gateWeight, linesOf, resetOf, withBridge, withCores, withGate, withOpen};
+ghost use Rattle.device.specs.Device.{answeredOf, freshOf, resetOf, startOf, withOpen, withTree};
+ghost use Rattle.device.specs.Private.{withCores};
 ghost use Rattle.device.specs.Step.{nextOf, outcomeOf, stepOf};
 use answers::Answer;
 use answers::Outcome;
 use cores::Core;
-use sources::Bridge;
 use steps::Plan;
 use steps::Step;
+use tree::Tree;
 
 pub struct Device {
     pub core0: Core,
     pub core1: Core,
-    pub bridge: Bridge,
-    pub gate: bool,
+    pub tree: Tree,
     pub second_open: bool,
 }
 
 pub struct Stepped {
     pub answer: Answer,
     pub device: Device,
-}
-
-// The gate shown as the bit that `weight` has.
-fn gate_read(gate: bool, weight: u64) -> u64
-    ensures { λ r. ⌜ r ≡ gateRead gate weight ⌝ }
-{
-    if gate { weight } else { 0 }
-}
-
-// Bit 16 of the high half, bit 48 of the word, and no bit of the low half.
-fn gate_weight(high: bool, width: u64) -> u64
-    ensures { λ r. ⌜ r ≡ gateWeight high width ⌝ }
-{
-    if high {
-        return 0x1_0000;
-    }
-    if width == 8 { 0x1_0000_0000_0000 } else { 0 }
 }
 
 impl Device {
@@ -48,12 +31,19 @@ impl Device {
     pub fn fresh() -> Device
         ensures { λ r. ⌜ r ≡ freshOf ⌝ }
     {
-        Device::with_levels(0)
+        Device::start(Tree::fresh(Device::MASKS))
     }
 
-    // The reset values beside the input levels.
-    fn with_levels(level: u64) -> Device
-        ensures { λ r. ⌜ r ≡ resetOf level ⌝ }
+    fn reset(self) -> Device
+        ensures { λ r. ⌜ r ≡ resetOf self ⌝ }
+    {
+        let tree = self.tree;
+        Device::start(tree.reset(Device::MASKS))
+    }
+
+    // The reset values beside a tree.
+    fn start(tree: Tree) -> Device
+        ensures { λ r. ⌜ r ≡ startOf tree ⌝ }
     {
         Device {
             core0: Core {
@@ -66,16 +56,7 @@ impl Device {
                 enable: 0,
                 mail: [0; 4],
             },
-            bridge: Bridge {
-                mask: Device::MASKS,
-                msi: 0,
-                edge: 0,
-                latch: 0,
-                soft: 0,
-                level: level,
-                routes: [0; 64],
-            },
-            gate: false,
+            tree: tree,
             second_open: Device::SECOND_OPEN,
         }
     }
@@ -88,19 +69,10 @@ impl Device {
         self
     }
 
-    fn with_bridge(mut self, b: Bridge) -> Device
-        ensures { λ r. ⌜ r ≡ withBridge self b ⌝ }
+    fn with_tree(mut self, tree: Tree) -> Device
+        ensures { λ r. ⌜ r ≡ withTree self tree ⌝ }
     {
-        self.bridge = b;
-        self
-    }
-
-    fn with_gate(mut self, written: bool, on: bool) -> Device
-        ensures { λ r. ⌜ r ≡ withGate self written on ⌝ }
-    {
-        if written {
-            self.gate = on;
-        }
+        self.tree = tree;
         self
     }
 
@@ -128,23 +100,13 @@ impl Device {
                 let word1 = core1.read(register, width);
                 Outcome::Value(bits::choose(core == 0, word0, word1))
             }
-            Plan::ReadGate { high, width } => {
-                Outcome::Value(gate_read(self.gate, gate_weight(high, width)))
-            }
-            Plan::ReadBridge(register) => {
-                let b = self.bridge;
-                Outcome::Value(b.read(register))
+            Plan::ReadTree(read) => {
+                let tree = self.tree;
+                Outcome::Value(tree.read(read))
             }
             Plan::WriteCore { effect: _, core: _ } => Outcome::Value(0),
-            Plan::WriteGate { written: _, on: _ } => Outcome::Value(0),
-            Plan::WriteBridge {
-                register: _,
-                value: _,
-            } => Outcome::Value(0),
-            Plan::Input {
-                level: _,
-                source: _,
-            } => Outcome::Value(0),
+            Plan::WriteTree(_) => Outcome::Value(0),
+            Plan::ChangeTree(_) => Outcome::Value(0),
             Plan::Window(_) => Outcome::Value(0),
             Plan::Reset => Outcome::Value(0),
         }
@@ -162,41 +124,22 @@ impl Device {
                 core: _,
                 width: _,
             } => self,
-            Plan::ReadGate { high: _, width: _ } => self,
-            Plan::ReadBridge(_) => self,
+            Plan::ReadTree(_) => self,
             Plan::WriteCore { effect, core } => {
                 let new0 = core0.applied(core == 0, effect);
                 let new1 = core1.applied(core != 0, effect);
                 self.with_cores(new0, new1)
             }
-            Plan::WriteGate { written, on } => self.with_gate(written, on),
-            Plan::WriteBridge { register, value } => {
-                let b = self.bridge;
-                self.with_bridge(b.changed(bridge::write_change(register, value)))
+            Plan::WriteTree(write) => {
+                let tree = self.tree;
+                self.with_tree(tree.written(write))
             }
-            Plan::Input { level, source } => {
-                let b = self.bridge;
-                self.with_bridge(b.input(source, level))
+            Plan::ChangeTree(change) => {
+                let tree = self.tree;
+                self.with_tree(tree.changed(change))
             }
             Plan::Window(open) => self.with_open(open),
-            Plan::Reset => {
-                let b = self.bridge;
-                Device::with_levels(b.level)
-            }
-        }
-    }
-
-    // The bridge's lines at the node, behind the gate.
-    fn bridge_lines(self) -> sources::Lines
-        ensures { λ r. ⌜ r ≡ linesOf self ⌝ }
-    {
-        if self.gate {
-            let b = self.bridge;
-            return b.lines();
-        }
-        sources::Lines {
-            chip0: false,
-            chip1: false,
+            Plan::Reset => self.reset(),
         }
     }
 
@@ -206,7 +149,8 @@ impl Device {
     {
         let core0 = self.core0;
         let core1 = self.core1;
-        let lines = self.bridge_lines();
+        let tree = self.tree;
+        let lines = tree.lines();
         let ipi0 = core0.line();
         let ipi1 = core1.line();
         Stepped {

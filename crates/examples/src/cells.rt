@@ -53,7 +53,7 @@ fn read_value(d: Device, k: u64) -> u64 {
 }
 
 // Every read gives the same of both.
-pub fn same_reads(a: Device, b: Device) -> bool {
+pub(crate) fn same_reads(a: Device, b: Device) -> bool {
     for k in 0..READS {
         if read_value(a, k) != read_value(b, k) {
             return false;
@@ -63,8 +63,10 @@ pub fn same_reads(a: Device, b: Device) -> bool {
 }
 
 // Every cell is the same in both: those that no read shows are the latches, the input levels and the window switch.
-pub fn same_cells(a: Device, b: Device) -> bool {
-    let p = a.bridge;
-    let q = b.bridge;
+pub(crate) fn same_cells(a: Device, b: Device) -> bool {
+    let first = a.tree;
+    let second = b.tree;
+    let p = first.bridge;
+    let q = second.bridge;
     p.latch == q.latch && p.level == q.level && a.second_open == b.second_open && same_reads(a, b)
 }

@@ -4,9 +4,9 @@ use clashes::Clash;
 use reorder::Cell;
 
 // No cell, core 0's Status, and any other.
-pub const FREE: u64 = 0;
+pub(crate) const FREE: u64 = 0;
 
-pub const STATUS: u64 = 1;
+pub(crate) const STATUS: u64 = 1;
 
 const OTHER: u64 = 2;
 
@@ -27,21 +27,21 @@ fn cell_number(cell: Cell) -> u64 {
     }
 }
 
-pub fn cell_of(clash: Clash) -> u64 {
+pub(crate) fn cell_of(clash: Clash) -> u64 {
     match clash {
         Clash::Free => FREE,
         Clash::On { cell, bits: _ } => cell_number(cell),
     }
 }
 
-pub fn bits_of(clash: Clash) -> u64 {
+pub(crate) fn bits_of(clash: Clash) -> u64 {
     match clash {
         Clash::Free => 0,
         Clash::On { cell: _, bits } => bits,
     }
 }
 
-pub fn show(cell: u64, bits: u64) {
+pub(crate) fn show(cell: u64, bits: u64) {
     if cell == FREE {
         show::text(b"free");
         return;

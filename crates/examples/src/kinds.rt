@@ -2,14 +2,14 @@
 use bridge::Register;
 use steps::Step;
 
-pub fn bus_read(address: u64, width: u64) -> Step {
+pub(crate) fn bus_read(address: u64, width: u64) -> Step {
     Step::BusRead {
         address: address,
         width: width,
     }
 }
 
-pub fn bus_write(address: u64, width: u64, value: u64) -> Step {
+pub(crate) fn bus_write(address: u64, width: u64, value: u64) -> Step {
     Step::BusWrite {
         address: address,
         width: width,
@@ -17,7 +17,7 @@ pub fn bus_write(address: u64, width: u64, value: u64) -> Step {
     }
 }
 
-pub fn private_read(core: u64, offset: u64, width: u64) -> Step {
+pub(crate) fn private_read(core: u64, offset: u64, width: u64) -> Step {
     Step::PrivateRead {
         core: core,
         offset: offset,
@@ -25,7 +25,7 @@ pub fn private_read(core: u64, offset: u64, width: u64) -> Step {
     }
 }
 
-pub fn private_write(core: u64, offset: u64, width: u64, value: u64) -> Step {
+pub(crate) fn private_write(core: u64, offset: u64, width: u64, value: u64) -> Step {
     Step::PrivateWrite {
         core: core,
         offset: offset,
@@ -34,24 +34,24 @@ pub fn private_write(core: u64, offset: u64, width: u64, value: u64) -> Step {
     }
 }
 
-pub fn bridge_read(register: Register) -> Step {
+pub(crate) fn bridge_read(register: Register) -> Step {
     Step::BridgeRead { register: register }
 }
 
-pub fn bridge_write(register: Register, value: u64) -> Step {
+pub(crate) fn bridge_write(register: Register, value: u64) -> Step {
     Step::BridgeWrite {
         register: register,
         value: value,
     }
 }
 
-pub fn input(source: u64, level: bool) -> Step {
+pub(crate) fn input(source: u64, level: bool) -> Step {
     Step::Input {
         source: source,
         level: level,
     }
 }
 
-pub fn window(opened: bool) -> Step {
+pub(crate) fn window(opened: bool) -> Step {
     Step::Window { open: opened }
 }

@@ -1,5 +1,6 @@
 // Runs the examples of 01 ("Examples on each side") that the proved table leaves, and says of each whether the device does what 01 says.
-// The parts of an example are lettered in 01's order; those that are missing are in the table. 8f is there too, and is run for its lines.
+// The parts of an example are lettered in 01's order; those that are missing are in the table, crates/promises/specs/Examples.antt. 8a to 8f,
+// 9b and 12b are there too, and so is 12c with other mail sends: they are run here again.
 mod cells;
 mod clash;
 mod kinds;
@@ -23,6 +24,9 @@ const SOURCE_63: u64 = 0x8000_0000_0000_0000;
 
 // The gate's bit.
 const GATE: u64 = 0x1_0000_0000_0000;
+
+// Both lines of the bridge.
+const BRIDGE_LINES: u64 = 0b1100;
 
 // Addresses of the second window at which no register starts. A refused step leaves the device as it was, so the next follows at once.
 fn example_5(run: Run) -> Run {
@@ -66,7 +70,7 @@ fn example_8(run: Run) -> Run {
         .shows(Register::IntIrr, SOURCE_63) // 8d
         .shows(Register::IntIsrChip0, SOURCE_63) // 8e
         .shows(Register::IntIsrChip1, SOURCE_63) // 8e
-        .raises(gate, 0b0011) // 8f
+        .raises(gate, BRIDGE_LINES) // 8f
 }
 
 fn example_8_source_64(run: Run) -> Run {

@@ -108,7 +108,7 @@ fn show_last(n: u64) {
 }
 
 // Prints the name of comparison n.
-pub fn show_name(n: u64) {
+pub(crate) fn show_name(n: u64) {
     if n < 30 {
         show_first(n);
     } else {

@@ -32,19 +32,10 @@ struct Got {
     same_reads: bool,
 }
 
-pub struct Run {
+pub(crate) struct Run {
     device: Device,
     passed: u64,
     failed: u64,
-}
-
-fn weighed(line: bool, weight: u64) -> u64 {
-    if line { weight } else { 0 }
-}
-
-// The four lines as bits of a number, the IPI line of core 0 highest.
-fn lines_of(a: Answer) -> u64 {
-    weighed(a.ipi0, 8) | weighed(a.ipi1, 4) | weighed(a.bridge0, 2) | weighed(a.bridge1, 1)
 }
 
 fn got_of(a: Answer, before: Device, after: Device) -> Got {
@@ -52,7 +43,7 @@ fn got_of(a: Answer, before: Device, after: Device) -> Got {
     Got {
         refusal: outcome.number(),
         value: outcome.data(),
-        lines: lines_of(a),
+        lines: a.lines(),
         same_cells: same_cells(before, after),
         same_reads: same_reads(before, after),
     }
@@ -101,7 +92,7 @@ fn show_got(got: Got) {
 }
 
 impl Run {
-    pub fn start() -> Run {
+    pub(crate) fn start() -> Run {
         Run {
             device: Device::fresh(),
             passed: 0,
@@ -114,12 +105,12 @@ impl Run {
         self
     }
 
-    pub fn fresh(self) -> Run {
+    pub(crate) fn fresh(self) -> Run {
         self.with_device(Device::fresh())
     }
 
     // A step on the way to an example.
-    pub fn after(self, step: Step) -> Run {
+    pub(crate) fn after(self, step: Step) -> Run {
         let d = self.device;
         self.with_device(d.step(step).device)
     }
@@ -158,45 +149,45 @@ impl Run {
     }
 
     // In these four all lines are low after the step.
-    pub fn refuses(self, step: Step, number: u64) -> Run {
+    pub(crate) fn refuses(self, step: Step, number: u64) -> Run {
         self.check(step, Expected::Refused(number), 0)
     }
 
-    pub fn reads(self, step: Step, value: u64) -> Run {
+    pub(crate) fn reads(self, step: Step, value: u64) -> Run {
         self.check(step, Expected::Value(value), 0)
     }
 
-    pub fn accepts(self, step: Step) -> Run {
+    pub(crate) fn accepts(self, step: Step) -> Run {
         self.check(step, Expected::Accepted, 0)
     }
 
-    pub fn keeps_reads(self, step: Step) -> Run {
+    pub(crate) fn keeps_reads(self, step: Step) -> Run {
         self.check(step, Expected::SameReads, 0)
     }
 
-    pub fn raises(self, step: Step, lines: u64) -> Run {
+    pub(crate) fn raises(self, step: Step, lines: u64) -> Run {
         self.check(step, Expected::Accepted, lines)
     }
 
     // The same of a bus access and of a bridge register.
-    pub fn refuses_read(self, address: u64, width: u64, number: u64) -> Run {
+    pub(crate) fn refuses_read(self, address: u64, width: u64, number: u64) -> Run {
         self.refuses(bus_read(address, width), number)
     }
 
-    pub fn refuses_write(self, address: u64, width: u64, value: u64, number: u64) -> Run {
+    pub(crate) fn refuses_write(self, address: u64, width: u64, value: u64, number: u64) -> Run {
         self.refuses(bus_write(address, width, value), number)
     }
 
-    pub fn writes(self, register: Register, value: u64) -> Run {
+    pub(crate) fn writes(self, register: Register, value: u64) -> Run {
         self.accepts(bridge_write(register, value))
     }
 
-    pub fn shows(self, register: Register, value: u64) -> Run {
+    pub(crate) fn shows(self, register: Register, value: u64) -> Run {
         self.reads(bridge_read(register), value)
     }
 
     // Whether two writes end in the same cells in both orders.
-    pub fn orders(self, a: Step, b: Step, agree: bool) -> Run {
+    pub(crate) fn orders(self, a: Step, b: Step, agree: bool) -> Run {
         let d = self.device;
         let got = same_cells(after_both(d, a, b), after_both(d, b, a));
         let passed = got == agree;
@@ -210,7 +201,7 @@ impl Run {
     }
 
     // The cell in which two writes clash, and the bits.
-    pub fn clashes(self, a: Step, b: Step, cell: u64, bits: u64) -> Run {
+    pub(crate) fn clashes(self, a: Step, b: Step, cell: u64, bits: u64) -> Run {
         let d = self.device;
         let got = clashes::find_clash(d.second_open, a, b);
         let got_cell = clash::cell_of(got);
@@ -225,7 +216,7 @@ impl Run {
         self.counted(passed)
     }
 
-    pub fn show_totals(self) {
+    pub(crate) fn show_totals(self) {
         show::decimal(self.passed);
         show::text(b" passed, ");
         show::decimal(self.failed);

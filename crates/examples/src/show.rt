@@ -1,25 +1,25 @@
 // What the program prints.
 use libc::STDOUT_FILENO;
 
-pub fn text(bytes: &[u8]) {
+pub(crate) fn text(bytes: &[u8]) {
     io::write_all(STDOUT_FILENO, bytes);
 }
 
-pub fn decimal(n: u64) {
+pub(crate) fn decimal(n: u64) {
     io::print_decimal(STDOUT_FILENO, n);
 }
 
-pub fn hex(n: u64) {
+pub(crate) fn hex(n: u64) {
     text(b"0x");
     io::print_hex(STDOUT_FILENO, n, 1);
 }
 
-pub fn refused(number: u64) {
+pub(crate) fn refused(number: u64) {
     text(b"refused ");
     decimal(number);
 }
 
-pub fn value(n: u64) {
+pub(crate) fn value(n: u64) {
     text(b"value ");
     hex(n);
 }
@@ -29,19 +29,19 @@ fn digit(n: u64) -> u8 {
 }
 
 // The four lines, the IPI line of core 0 first.
-pub fn lines(bits: u64) {
+pub(crate) fn lines(bits: u64) {
     let digits = [
-        digit(bits / 8),
-        digit(bits / 4),
-        digit(bits / 2),
         digit(bits),
+        digit(bits / 2),
+        digit(bits / 4),
+        digit(bits / 8),
     ];
     text(b", lines ");
     text(&digits);
 }
 
 // Of the two orders of a pair of writes.
-pub fn agreement(same: bool) {
+pub(crate) fn agreement(same: bool) {
     if same {
         text(b"the orders agree");
     } else {
@@ -49,7 +49,7 @@ pub fn agreement(same: bool) {
     }
 }
 
-pub fn verdict(passed: bool) {
+pub(crate) fn verdict(passed: bool) {
     if passed {
         text(b": ok");
     } else {

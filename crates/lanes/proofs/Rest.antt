@@ -1,8 +1,8 @@
 -- The loop of `united`: the result so far, with the bytes that are still to look at, makes the whole.
 use Prim.Native.Nat.{ℕ, _-_, _%_, _^_, _<_}
 use native.Mathlib.Nat.{mod-lt}
-use mathlib.Core.Path.{_≡_, ap, _∙_}
-use mathlib.Core.Bool.{Bool, true, false, cond, _&&_, _||_, or-assoc, or-false}
+use mathlib.Core.Path.{_≡_, sym, ap, _∙_}
+use mathlib.Core.Bool.{Bool, true, false, _&&_, _||_, or-assoc, or-false}
 use mathlib.Core.List.{List}
 use lib.Bits.{bitOr, or-lt}
 use lib.Dec.{eqb}
@@ -12,7 +12,7 @@ use borrow.Author.Tests.{lt-ltb}
 use Rattle.bits.specs.Bits.{bit, some, first, put}
 use Rattle.bits.proofs.Words.{bit-zero, bit-word, bit-mod, is-word}
 use Rattle.bits.proofs.Operations.{bit-or, bit-ones}
-use Rattle.bits.proofs.Taut.{taut}
+use Rattle.bits.proofs.Cond.{cond-ap}
 use Rattle.lanes.specs.Bytes.{united}
 use Rattle.bits.proofs.Some.{some-cong, some-none, some-split}
 use Rattle.lanes.proofs.LowestBit.{first-set, put-lt}
@@ -25,15 +25,12 @@ picked-none : (n : ℕ) (bytes : List ℕ) (j : ℕ) → picked n bytes 0 j ≡ 
 unfolding picked
 picked-none n bytes j = some-cong n (λ i h. rw bit-zero) ∙ some-none n
 
-other : (e a b : Bool) → cond e false (a && b) ≡ (cond e false a && b)
-other = taut 3 _ _ tt
-
 -- byte i apart from the others
 picked-split : (n : ℕ) (bytes : List ℕ) (w i j : ℕ) → i < n → bit w i ≡ true → picked n bytes w j ≡ (bit (getD bytes i 0) j || picked n bytes (put n w i false) j)
 unfolding picked put
 picked-split n bytes w i j h t =
     some-split n i (λ m. bit w m && bit (getD bytes m 0) j) h
-    ∙ rw t (ap (λ (s : Bool). bit (getD bytes i 0) j || s) (some-cong n (λ m l. rw (bit-word n _ m l) (other (eqb m i) (bit w m) _))))
+    ∙ rw t (ap (λ (s : Bool). bit (getD bytes i 0) j || s) (some-cong n (λ m l. rw (bit-word n _ m l) (sym (cond-ap (λ (a : Bool). a && bit (getD bytes m 0) j) (eqb m i) false (bit w m))))))
 
 -- r is the result so far of the bytes that `which` picks, and w picks those that are still to look at
 pub record Rest (k n : ℕ) (bytes : List ℕ) (which w r : ℕ) : Type 0 where

@@ -1,14 +1,14 @@
 -- The digits of a number in a base: the first and the further ones, and the array that they end.
 use Prim.Native.Nat.{ℕ, zero, suc, _+_, _-_, _*_, _/_, _%_, _^_, _<_, _≤_}
 use mathlib.Core.Path.{_≡_, refl, ap, _∙_}
-use mathlib.Core.Bool.{Bool, true, false, cond}
+use mathlib.Core.Logic.{⊎-elim}
 use mathlib.Core.List.{List, [], _∷_, _++_}
 use native.Mathlib.Nat.{not-suc-le-zero, div-lt-self, div-lt-iff-lt-mul, pow-zero, pow-suc, one-mul}
 use native.Mathlib.Omega.{arith}
-use borrow.Author.Tests.{lt-ltb, le-ltb, ltb-false}
-use lib.Dec.{ltb}
+use borrow.Author.Tests.{lt-ltb, le-ltb}
 use lib.ListN.{length, drop, set, replicate, length-replicate}
 use lib.Seq.{drop-at}
+use Rattle.bits.proofs.Words.{below}
 use Rattle.numbers.specs.declared.Digits.{Digits}
 use Rattle.numbers.specs.Printed.{glyph, digitsWithin, digitsOf, ended}
 
@@ -18,15 +18,12 @@ unfolding digitsWithin
 enough zero j base n b h g = absurd (not-suc-le-zero h)
 enough (suc k) zero base n b h g = absurd (not-suc-le-zero g)
 enough (suc k) (suc j) base n b h g =
-    by-test (ltb n base) refl (λ (more : base ≤ n).
+    ⊎-elim
+    (λ (l : n < base). rw (lt-ltb n base l))
+    (λ (m : base ≤ n).
     let less : n / base < n = div-lt-self (omega arith) b in
-    enough k j base (n / base) b (omega arith) (omega arith))
-  where
-    by-test : (t : Bool) → ltb n base ≡ t → (base ≤ n → digitsWithin k base (n / base) ≡ digitsWithin j base (n / base))
-        → cond t (glyph n ∷ []) (digitsWithin k base (n / base) ++ (glyph (n % base) ∷ []))
-        ≡ cond t (glyph n ∷ []) (digitsWithin j base (n / base) ++ (glyph (n % base) ∷ []))
-    by-test true e more = refl
-    by-test false e more = ap (λ l. l ++ (glyph (n % base) ∷ [])) (more (ltb-false n base e))
+    rw (le-ltb n base m) (ap (λ l. l ++ (glyph (n % base) ∷ [])) (enough k j base (n / base) b (omega arith) (omega arith))))
+    (below n base)
 
 pub digits-one : (base n : ℕ) → n < base → digitsOf base n ≡ glyph n ∷ []
 unfolding digitsOf digitsWithin

@@ -1,13 +1,16 @@
 -- A number that is printed and read is the number, in every base from 2 to 16.
 use Prim.Native.Nat.{ℕ, zero, suc, _+_, _*_, _/_, _%_, _^_, _<_, _≤_}
 use mathlib.Core.Path.{_≡_, refl, sym, ap, _∙_}
-use mathlib.Core.Bool.{Bool, true, false, cond, _&&_, and-false, true≢false}
+use mathlib.Core.Logic.{⊎-elim}
+use mathlib.Core.Bool.{Bool, true, false, cond, and-false, true≢false}
 use mathlib.Core.List.{List, [], _∷_, _++_, append-nil}
 use native.Mathlib.Nat.{not-suc-le-zero, div-lt-self, div-add-mod', mod-lt, zero-mul, zero-add}
 use native.Mathlib.Omega.{arith}
-use borrow.Author.Tests.{lt-ltb, le-leb, lt-leb, ltb-true, ltb-false, eqb-true}
+use borrow.Table.Steps.{cases}
+use borrow.Author.Tests.{lt-ltb, le-ltb, le-leb, lt-leb, eqb-true}
 use lib.Dec.{eqb, ltb}
 use lib.Seq.{append-snoc}
+use Rattle.bits.proofs.Words.{below}
 use Rattle.numbers.specs.declared.Number.the-variants.{Value}
 use Rattle.numbers.specs.Numbers.{digitOf, separates, formed, valueFrom, bounded, numberIn, marked, numberOf}
 use Rattle.numbers.specs.Printed.{glyph, digitsWithin, digitsOf, decimalOf}
@@ -26,11 +29,8 @@ letter-glyph d l h =
 
 read-glyph : (d : ℕ) → d < 16 → digitOf (glyph d) ≡ d
 unfolding glyph
-read-glyph d h = by-test (ltb d 10) refl
-  where
-    by-test : (t : Bool) → ltb d 10 ≡ t → digitOf (cond t (48 + d) (87 + d)) ≡ d
-    by-test true e = decimal-glyph d (ltb-true d 10 e)
-    by-test false e = letter-glyph d (ltb-false d 10 e) h
+read-glyph d h =
+    ⊎-elim (λ l. rw (lt-ltb d 10 l) (decimal-glyph d l)) (λ m. rw (le-ltb d 10 m) (letter-glyph d m h)) (below d 10)
 
 module _ (base : ℕ) (more : 1 < base) (most : base ≤ 16) where
   -- A text that begins with the character of a digit.
@@ -52,21 +52,20 @@ module _ (base : ℕ) (more : 1 < base) (most : base ≤ 16) where
   unfolding digitsWithin
   reads zero n rest h = absurd (not-suc-le-zero h)
   reads (suc k) n rest h =
-      by-test (ltb n base) refl (λ (m : base ≤ n).
+      ⊎-elim
+      (λ l.
+      rw (lt-ltb n base l)
+      (formed-glyph n false rest l, value-glyph n 0 rest l ∙ ap (λ x. valueFrom base x rest) (ap (λ x. x + n) (zero-mul base) ∙ zero-add n)))
+      (λ m.
       let less : n / base < n = div-lt-self (omega arith) more in
-      reads k (n / base) (glyph (n % base) ∷ rest) (omega arith))
-    where
-      by-test : (t : Bool) → ltb n base ≡ t → (base ≤ n → Reads (n / base) (digitsWithin k base (n / base)) (glyph (n % base) ∷ rest))
-          → Reads n (cond t (glyph n ∷ []) (digitsWithin k base (n / base) ++ (glyph (n % base) ∷ []))) rest
-      by-test true e f = let l : n < base = ltb-true n base e in
-          (formed-glyph n false rest l, value-glyph n 0 rest l ∙ ap (λ x. valueFrom base x rest) (ap (λ x. x + n) (zero-mul base) ∙ zero-add n))
-      by-test false e f =
-          let l : n % base < base = mod-lt n (omega arith) in
-          let p = f (ltb-false n base e) in
-          let snoc = append-snoc (digitsWithin k base (n / base)) (glyph (n % base)) rest in (
-            ap (formed base false) snoc ∙ p .0 ∙ formed-glyph (n % base) true rest l,
-            ap (valueFrom base 0) snoc ∙ p .1 ∙ value-glyph (n % base) (n / base) rest l ∙ ap (λ x. valueFrom base x rest) (div-add-mod' n base),
-          )
+      let l : n % base < base = mod-lt n (omega arith) in
+      let p = reads k (n / base) (glyph (n % base) ∷ rest) (omega arith) in
+      let snoc = append-snoc (digitsWithin k base (n / base)) (glyph (n % base)) rest in
+      rw (le-ltb n base m) (
+        ap (formed base false) snoc ∙ p .0 ∙ formed-glyph (n % base) true rest l,
+        ap (valueFrom base 0) snoc ∙ p .1 ∙ value-glyph (n % base) (n / base) rest l ∙ ap (λ x. valueFrom base x rest) (div-add-mod' n base),
+      ))
+      (below n base)
 
   formed-digits : (n : ℕ) → formed base false (digitsOf base n) ≡ true
   unfolding digitsOf formed
@@ -90,21 +89,16 @@ x-refused false s = refl
 
 second-refused : (c : ℕ) (s : List ℕ) → formed 10 false (c ∷ 120 ∷ s) ≡ false
 unfolding formed separates
-second-refused c s = by-test (ltb (digitOf c) 10)
-  where
-    by-test : (t : Bool) → cond t (formed 10 true (120 ∷ s)) false ≡ false
-    by-test true = x-refused true s
-    by-test false = refl
+second-refused c s = cases (ltb (digitOf c) 10) (λ e. rw e (x-refused true s)) (λ e. rw e)
 
 not-marked : (s : List ℕ) → formed 10 false s ≡ true → marked s ≡ false
 unfolding marked
 not-marked [] f = refl
 not-marked (c ∷ []) f = and-false (eqb c 48)
-not-marked (c ∷ d ∷ s) f = by-test (eqb d 120) refl
-  where
-    by-test : (t : Bool) → eqb d 120 ≡ t → (eqb c 48 && t) ≡ false
-    by-test true e = absurd (true≢false (sym f ∙ ap (λ x. formed 10 false (c ∷ x ∷ s)) (eqb-true d 120 e) ∙ second-refused c s))
-    by-test false e = and-false (eqb c 48)
+not-marked (c ∷ d ∷ s) f =
+    cases (eqb d 120)
+    (λ e. absurd (true≢false (sym f ∙ ap (λ x. formed 10 false (c ∷ x ∷ s)) (eqb-true d 120 e) ∙ second-refused c s)))
+    (λ e. rw e (and-false (eqb c 48)))
 
 pub decimal-round-trip : DecimalRoundTrip
 unfolding numberOf

@@ -1,8 +1,10 @@
 pub mod Orders
 pub mod Runs
 pub mod Cells
-pub mod Rule
 pub mod Clash
+pub mod Ways
+pub mod Rule
+pub mod Writes
 pub mod Blocks
-pub mod Slots
+pub mod Places
 pub mod Examples

@@ -1,3 +1,5 @@
 pub mod Order
 pub mod Cells
-pub mod Slots
+pub mod Viewed
+pub mod Places
+pub mod Examples

@@ -1,24 +1,38 @@
 -- The promises of specs/Promises hold of the definition that `step` equals.
-use Prim.Native.Nat.{ℕ}
+use Prim.Native.Nat.{ℕ, _≤_}
 use mathlib.Core.Path.{_≡_, refl, sym, ap}
 use mathlib.Core.Logic.{_↔_}
-use mathlib.Core.Bool.{Bool, true, false, not, _&&_, true≢false}
+use mathlib.Core.Bool.{Bool, true, false, cond, _&&_, true≢false}
 use native.Mathlib.Omega.{arith}
+use lib.Dec.{eqb}
+use borrow.Author.Tests.{not-true}
 use Rattle.bits.proofs.Some.{some-at, some-of}
 use Rattle.access.specs.declared.Refusal.{Refusal}
+use Rattle.access.specs.declared.Refusal.the-variants as refusal
+use Rattle.access.specs.declared.Verdict.{Verdict}
+use Rattle.access.specs.declared.Verdict.the-variants as verdict
+use Rattle.access.specs.Refusal.{firstOf, refusalNumber}
+use Rattle.admission.specs.Refusals.{bridgeRefusals, inputRefusals}
 use Rattle.cores.specs.declared.Core.{Core}
 use Rattle.cores.specs.Core as cores
+use Rattle.bridge.specs.declared.Written.{Written}
+use Rattle.bridge.specs.declared.Written.the-variants.{Plain, Changed}
+use Rattle.bridge.specs.Registers.{writtenOf}
 use Rattle.sources.specs.declared.Bridge.{Bridge}
 use Rattle.sources.specs.Sources as sources
+use Rattle.tree.specs.declared.Tree.{Tree}
+use Rattle.tree.specs.declared.Write.the-variants as write
+use Rattle.tree.specs.declared.Change.the-variants as change
+use Rattle.tree.specs.Tree as tree
 use Rattle.device.specs.declared.Device.{Device}
 use Rattle.answers.specs.declared.Outcome.the-variants.{Value, Refused}
 use Rattle.steps.specs.declared.Plan.{Plan}
-use Rattle.steps.specs.declared.Plan.the-variants.{Refuse, ReadCore, WriteCore, ReadGate, WriteGate, ReadBridge, WriteBridge, Input, Window, Reset}
-use Rattle.device.specs.Device.{answeredOf, bridgeLine}
-use Rattle.steps.specs.Decide.{decideOf}
-use Rattle.answers.specs.Outcome.{outcomeData}
+use Rattle.steps.specs.declared.Plan.the-variants.{Refuse, ReadCore, WriteCore, ReadTree, WriteTree, ChangeTree, Window, Reset}
+use Rattle.device.specs.Device.{answeredOf, resetOf, startOf, withCore0, withCore1}
+use Rattle.steps.specs.Decide.{bridgePlan, decideOf, inputPlan, planned, writtenPlan}
+use Rattle.answers.specs.Answers.{outcomeData, outcomeNumber}
 use Rattle.device.specs.Step.{nextOf, outcomeOf, stepOf}
-use Rattle.promises.specs.Promises.{BridgeLines, Cause, IpiLines, RefusedSteps, Separation, Vector}
+use Rattle.promises.specs.Promises.{BesideBridge, BridgeLines, BridgeSteps, Cause, IpiLines, Left, Passed, RefusedSteps, Separation, Vector}
 
 -- ---- refused steps
 
@@ -30,31 +44,42 @@ refused-plan : (d : Device) (p : Plan) (reason : Refusal) → outcomeOf d p ≡ 
 unfolding outcomeOf nextOf
 refused-plan d (Refuse f) reason e = refl
 refused-plan d (ReadCore register core width) reason e = refl
-refused-plan d (ReadGate high width) reason e = refl
-refused-plan d (ReadBridge register) reason e = refl
+refused-plan d (ReadTree read) reason e = refl
 refused-plan d (WriteCore effect core) reason e = accepted 0 reason e
-refused-plan d (WriteGate written on) reason e = accepted 0 reason e
-refused-plan d (WriteBridge register value) reason e = accepted 0 reason e
-refused-plan d (Input level source) reason e = accepted 0 reason e
+refused-plan d (WriteTree write) reason e = accepted 0 reason e
+refused-plan d (ChangeTree change) reason e = accepted 0 reason e
 refused-plan d (Window on) reason e = accepted 0 reason e
 refused-plan d Reset reason e = accepted 0 reason e
 
+numbered : (reason : Refusal) → (1 ≤ refusalNumber reason) × (refusalNumber reason ≤ 8)
+unfolding refusalNumber
+numbered refusal.Core = (omega arith, omega arith)
+numbered refusal.Register = (omega arith, omega arith)
+numbered refusal.Window = (omega arith, omega arith)
+numbered refusal.Width = (omega arith, omega arith)
+numbered refusal.Right = (omega arith, omega arith)
+numbered refusal.Value = (omega arith, omega arith)
+numbered refusal.Source = (omega arith, omega arith)
+numbered refusal.Distribution = (omega arith, omega arith)
+
 pub refused-steps : RefusedSteps
-unfolding stepOf answeredOf outcomeData
+unfolding stepOf answeredOf outcomeData outcomeNumber
 refused-steps d s reason e =
     let p = decideOf (d .«second_open») s in
     let q : nextOf d p ≡ d = refused-plan d p reason e in
-    record { device = q; nothing-read = rw e; lines = ap (λ (x : Device). answeredOf x (outcomeOf d p) .answer) q }
+    record {
+      from-1 = rw e (numbered reason .0);
+      to-8 = rw e (numbered reason .1);
+      device = q;
+      nothing-read = rw e;
+      lines = ap (λ (x : Device). answeredOf x (outcomeOf d p) .answer) q;
+    }
 
 -- ---- the four lines
 
 and-parts : (a b : Bool) → (a && b) ≡ true → (a ≡ true) × (b ≡ true)
 and-parts true b e = (refl, e)
 and-parts false b e = absurd (true≢false (sym e))
-
-not-part : (a : Bool) → not a ≡ true → a ≡ false
-not-part true e = sym e
-not-part false e = refl
 
 vector : (c : Core) → (cores.lineOf c ≡ true) ↔ Vector c
 unfolding cores.lineOf
@@ -75,25 +100,61 @@ cause b k = (
       let p = and-parts _ _ (w .2) in
       let q = and-parts _ _ (p .0) in
       let r = and-parts _ _ (q .1) in
-      record { source = w .0; there = w .1; pending = q .0; unmasked = not-part _ (r .0); no-message = not-part _ (r .1); routed = p .1 },
+      record { source = w .0; there = w .1; pending = q .0; unmasked = not-true _ (r .0); no-message = not-true _ (r .1); routed = p .1 },
   λ c. some-of 64 _ (c .source) (c .there) (rw (c .pending, c .unmasked, c .no-message, c .routed)),
 )
 
-gated : (d : Device) (k : ℕ) → (bridgeLine d k ≡ true) ↔ ((d .gate ≡ true) × Cause (d .bridge) k)
-gated d k = (
-  λ e. let p = and-parts _ _ e in (p .0, cause (d .bridge) k .0 (p .1)),
-  λ c. rw (c .0, cause (d .bridge) k .1 (c .1)),
+gated : (t : Tree) (k : ℕ) → (tree.bridgeLine t k ≡ true) ↔ Passed t k
+gated t k = (
+  λ e. let p = and-parts _ _ e in (p .0, cause (t .bridge) k .0 (p .1)),
+  λ c. rw (c .0, cause (t .bridge) k .1 (c .1)),
 )
 
 pub bridge-lines : BridgeLines
 unfolding stepOf answeredOf
-bridge-lines d s = let e = stepOf d s .device in (gated e 0, gated e 1)
+bridge-lines d s = let t = stepOf d s .device .tree in (gated t 0, gated t 1)
 
 -- ---- separation
 
+core-left : (d : Device) (t : Bool) (k : Core)
+    → let e = cond t (withCore0 d k) (withCore1 d k) in
+    (cond t (e .core1) (e .core0) ≡ cond t (d .core1) (d .core0)) × (e .tree ≡ d .tree) × (e .«second_open» ≡ d .«second_open»)
+core-left d true k = (refl, refl, refl)
+core-left d false k = (refl, refl, refl)
+
+left : (d : Device) (p : Plan) → Left p d (nextOf d p)
+unfolding nextOf tree.writtenOf tree.changedOf resetOf startOf tree.resetOf tree.withLevels
+left d (Refuse reason) = refl
+left d (ReadCore register core width) = refl
+left d (ReadTree read) = refl
+left d (WriteCore effect core) = core-left d (eqb core 0) (cores.appliedOf (cond (eqb core 0) (d .core0) (d .core1)) effect)
+left d (WriteTree (write.Bridge effect)) = ((refl, refl), refl, refl)
+left d (WriteTree (write.Gate written on)) = ((refl, refl), refl, refl)
+left d (ChangeTree (change.Bridge c)) = ((refl, refl), refl, refl)
+left d (ChangeTree (change.Input level source)) = ((refl, refl), refl, refl)
+left d (Window on) = ((refl, refl), refl)
+left d Reset = refl
+
 pub separation : Separation
-unfolding stepOf answeredOf nextOf
-separation d s e = (
-  λ q. rw q (record { core = refl; bridge = refl; gate = refl; window = refl }),
-  λ q. rw q (record { core = refl; bridge = refl; gate = refl; window = refl }),
+unfolding stepOf answeredOf
+separation d s = left d (decideOf (d .«second_open») s)
+
+-- a plan that is refused, or reaches the bridge alone
+written-beside : (d : Device) (v : Verdict) (w : Written) → BesideBridge d (nextOf d (planned v (writtenPlan w)))
+unfolding nextOf writtenPlan tree.writtenOf tree.changedOf
+written-beside d (verdict.Refused reason) w = ((refl, refl), refl, refl)
+written-beside d verdict.Accepted (Plain e) = ((refl, refl), refl, refl)
+written-beside d verdict.Accepted (Changed c) = ((refl, refl), refl, refl)
+
+input-beside : (d : Device) (v : Verdict) (i : ℕ) (level : Bool)
+    → BesideBridge d (nextOf d (planned v (ChangeTree (change.Input level i))))
+unfolding nextOf tree.changedOf
+input-beside d (verdict.Refused reason) i level = ((refl, refl), refl, refl)
+input-beside d verdict.Accepted i level = ((refl, refl), refl, refl)
+
+pub bridge-steps : BridgeSteps
+unfolding stepOf answeredOf decideOf bridgePlan inputPlan
+bridge-steps d = (
+  λ r v. written-beside d (firstOf (bridgeRefusals r true v)) (writtenOf r v),
+  λ i level. input-beside d (firstOf (inputRefusals i)) i level,
 )

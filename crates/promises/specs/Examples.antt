@@ -13,8 +13,8 @@ use Rattle.device.specs.declared.Device.{Device}
 use Rattle.answers.specs.declared.Answer.{Answer}
 use Rattle.steps.specs.declared.Step.{Step}
 use Rattle.steps.specs.declared.Step.the-variants.{BusRead, BusWrite, PrivateWrite, BridgeRead, BridgeWrite, Input, Window}
-use Rattle.device.specs.Device.{freshOf, withBridge, withCore0, withCore1, withGate, withOpen}
-use Rattle.answers.specs.Outcome.{outcomeData, outcomeNumber}
+use Rattle.device.specs.Device.{freshOf, withCore0, withCore1, withOpen, withTree}
+use Rattle.answers.specs.Answers.{outcomeData, outcomeNumber}
 use Rattle.device.specs.Step.{stepOf}
 
 -- 01's refusal number (0: accepted), the read value, and the lines: IPI of core 0 and 1, bridge 0 and 1
@@ -76,6 +76,10 @@ ones = 0xffffffffffffffff
 abbrev bridged : ℕ → ℕ → ℕ → ℕ → Bridge
 bridged mask edge level route = record { mask = mask; msi = 0; edge = edge; latch = 0; soft = 0; level = level; routes = set (replicate 64 0) 63 route }
 
+-- the fresh device with such a bridge, and the gate
+abbrev treed : Bridge → Bool → Device
+treed b gate = withTree freshOf (record { bridge = b; gate = gate })
+
 unfoldable pub examples : List Example
 examples =
     -- 1
@@ -121,12 +125,12 @@ examples =
     ∷ ok 0x8000000000000000
     ∷ record { refusal = 0; value = 0; ipi0 = false; ipi1 = false; bridge0 = true; bridge1 = true }
     ∷ [])
-    (withGate (withBridge freshOf (bridged 0x7fffffffffffffff 0 0x8000000000000000 3)) true true)
+    (treed (bridged 0x7fffffffffffffff 0 0x8000000000000000 3) true)
     -- 9
     ∷ example
     (BridgeWrite IntEdge 8 ∷ Input 3 true ∷ Input 3 false ∷ BridgeRead IntIrr ∷ BridgeWrite IntClr 8 ∷ BridgeRead IntIrr ∷ [])
     (ok 0 ∷ ok 0 ∷ ok 0 ∷ ok 8 ∷ ok 0 ∷ ok 0 ∷ [])
-    (withBridge freshOf (bridged ones 8 0 0))
+    (treed (bridged ones 8 0 0) false)
     -- 12: both orders agree, they don't, they agree
     ∷ example (PrivateWrite 0 0x1008 4 3 ∷ PrivateWrite 0 0x1008 4 6 ∷ []) (ok 0 ∷ ok 0 ∷ []) (withCore0 freshOf (cells 7 0))
     ∷ example (PrivateWrite 0 0x1008 4 6 ∷ PrivateWrite 0 0x1008 4 3 ∷ []) (ok 0 ∷ ok 0 ∷ []) (withCore0 freshOf (cells 7 0))

@@ -1,31 +1,38 @@
 -- What holds of every device and every step, stated; the proofs are in proofs/Promises.
---   RefusedSteps     a refused step changes nothing (demand 1)
+--   RefusedSteps     a refused step has its number and changes nothing (demand 1)
 --   IpiLines, BridgeLines   a line is high exactly if an enabled, pending cause is routed to it (demand 2)
---   Separation       a write to one core's cells leaves the other core, the bridge, the gate and the window as they were
-use Prim.Native.Nat.{ℕ, _<_}
+--   Separation       a step leaves the parts of the device that its plan does not name; BridgeSteps, the same by the kind of step
+use Prim.Native.Nat.{ℕ, _<_, _≤_}
 use mathlib.Core.Path.{_≡_}
 use mathlib.Core.Logic.{_↔_}
-use mathlib.Core.Bool.{true, false}
+use mathlib.Core.Bool.{Bool, true, false, cond}
+use lib.Dec.{eqb}
 use lib.ListN.{getD}
 use Rattle.bits.specs.Bits.{bit}
 use Rattle.access.specs.declared.Refusal.{Refusal}
 use Rattle.cores.specs.declared.Core.{Core}
-use Rattle.ipi.specs.declared.Effect as ipi
+use Rattle.bridge.specs.declared.Register.{Register}
 use Rattle.sources.specs.declared.Bridge.{Bridge}
 use Rattle.sources.specs.Sources.{requestAt}
+use Rattle.tree.specs.declared.Tree.{Tree}
+use Rattle.tree.specs.declared.Write.the-variants as write
 use Rattle.device.specs.declared.Device.{Device}
 use Rattle.answers.specs.declared.Outcome.the-variants.{Refused}
 use Rattle.steps.specs.declared.Step.{Step}
-use Rattle.steps.specs.declared.Plan.the-variants.{WriteCore}
+use Rattle.steps.specs.declared.Step.the-variants.{BridgeWrite, Input}
+use Rattle.steps.specs.declared.Plan.{Plan}
+use Rattle.steps.specs.declared.Plan.the-variants.{Refuse, ReadCore, WriteCore, ReadTree, WriteTree, ChangeTree, Window, Reset}
 use Rattle.device.specs.Device.{answeredOf}
 use Rattle.steps.specs.Decide.{decideOf}
-use Rattle.answers.specs.Outcome.{outcomeData}
+use Rattle.answers.specs.Answers.{outcomeData, outcomeNumber}
 use Rattle.device.specs.Step.{stepOf}
 
 -- ---- refused steps
 
--- the device is as it was, the read data are 0, and the lines are those of the device as it was
+-- the number is one of 1 to 8, the device is as it was, the read data are 0, and the lines are those of the device as it was
 pub record Unchanged (d : Device) (s : Step) : Type 0 where
+  pub from-1 : 1 ≤ outcomeNumber (stepOf d s .answer .outcome)
+  pub to-8 : outcomeNumber (stepOf d s .answer .outcome) ≤ 8
   pub device : stepOf d s .device ≡ d
   pub nothing-read : outcomeData (stepOf d s .answer .outcome) ≡ 0
   pub lines : stepOf d s .answer ≡ answeredOf d (stepOf d s .answer .outcome) .answer
@@ -57,23 +64,51 @@ IpiLines =
     (d : Device) (s : Step)
     → ((stepOf d s .answer .ipi0 ≡ true) ↔ Vector (stepOf d s .device .core0)) × ((stepOf d s .answer .ipi1 ≡ true) ↔ Vector (stepOf d s .device .core1))
 
+-- bridge line k: the gate is 1, and a cause is routed there
+abbrev pub Passed : Tree → ℕ → Type 0
+Passed t k = (t .gate ≡ true) × Cause (t .bridge) k
+
 abbrev pub BridgeLines : Type 0
 BridgeLines =
     (d : Device) (s : Step)
-    → ((stepOf d s .answer .bridge0 ≡ true) ↔ ((stepOf d s .device .gate ≡ true) × Cause (stepOf d s .device .bridge) 0))
-    × ((stepOf d s .answer .bridge1 ≡ true) ↔ ((stepOf d s .device .gate ≡ true) × Cause (stepOf d s .device .bridge) 1))
+    → ((stepOf d s .answer .bridge0 ≡ true) ↔ Passed (stepOf d s .device .tree) 0)
+    × ((stepOf d s .answer .bridge1 ≡ true) ↔ Passed (stepOf d s .device .tree) 1)
 
 -- ---- separation
 
-pub record Apart (other : Device → Core) (d e : Device) : Type 0 where
-  pub core : other e ≡ other d
-  pub bridge : e .bridge ≡ d .bridge
-  pub gate : e .gate ≡ d .gate
-  pub window : e .«second_open» ≡ d .«second_open»
+-- of the devices d before and e after a step
+abbrev pub CoresStay : Device → Device → Type 0
+CoresStay d e = (e .core0 ≡ d .core0) × (e .core1 ≡ d .core1)
 
--- of a step that writes core 0's cells, and of one that writes core 1's
+abbrev pub WindowStays : Device → Device → Type 0
+WindowStays d e = e .«second_open» ≡ d .«second_open»
+
+-- all but the bridge
+abbrev pub BesideBridge : Device → Device → Type 0
+BesideBridge d e = CoresStay d e × (e .tree .gate ≡ d .tree .gate) × WindowStays d e
+
+-- the core that a write to core c does not reach
+abbrev pub otherCore : Device → ℕ → Core
+otherCore d c = cond (eqb c 0) (d .core1) (d .core0)
+
+-- what a plan leaves as it was
+abbrev pub Left : Plan → Device → Device → Type 0
+Left (Refuse reason) d e = e ≡ d
+Left (ReadCore register core width) d e = e ≡ d
+Left (ReadTree read) d e = e ≡ d
+Left (WriteCore effect core) d e = (otherCore e core ≡ otherCore d core) × (e .tree ≡ d .tree) × WindowStays d e
+Left (WriteTree (write.Bridge effect)) d e = BesideBridge d e
+Left (WriteTree (write.Gate written on)) d e = CoresStay d e × (e .tree .bridge ≡ d .tree .bridge) × WindowStays d e
+Left (ChangeTree change) d e = BesideBridge d e
+Left (Window on) d e = CoresStay d e × (e .tree ≡ d .tree)
+Left Reset d e = e .tree .bridge .level ≡ d .tree .bridge .level  -- the input levels are outside wires
+
 abbrev pub Separation : Type 0
-Separation =
-    (d : Device) (s : Step) (e : ipi.Effect)
-    → (decideOf (d .«second_open») s ≡ WriteCore e 0 → Apart (λ (x : Device). x .core1) d (stepOf d s .device))
-    × (decideOf (d .«second_open») s ≡ WriteCore e 1 → Apart (λ (x : Device). x .core0) d (stepOf d s .device))
+Separation = (d : Device) (s : Step) → Left (decideOf (d .«second_open») s) d (stepOf d s .device)
+
+-- a step by a bridge register's name, and an input change, reach the bridge alone
+abbrev pub BridgeSteps : Type 0
+BridgeSteps =
+    (d : Device)
+    → ((r : Register) (v : ℕ) → BesideBridge d (stepOf d (BridgeWrite r v) .device))
+    × ((i : ℕ) (level : Bool) → BesideBridge d (stepOf d (Input i level) .device))

@@ -1,105 +1,82 @@
--- The cells of the device are a block, made of those of the cores and of the bridge; with the rest they are all that there is of a device.
+-- The cells of the device are a block; with the rest they are all that there is of a device.
 use Prim.Native.Nat.{ℕ}
-use mathlib.Core.Path.{_≡_, refl, sym, ap}
-use mathlib.Core.Bool.{Bool, true, false, true≢false}
+use mathlib.Core.Path.{_≡_, refl, sym, ap, _∙_}
+use mathlib.Core.Bool.{Bool, true, false}
 use mathlib.Core.Option.{some}
+use mathlib.Core.List.{[], _∷_, map}
 use native.Mathlib.Omega.{arith}
+use lib.ListN.{length, getD, set}
+use lib.Seq.{ext-getD}
 use Rattle.bits.specs.Bits.{bit, digit}
 use Rattle.bits.proofs.Writes.{merge-one}
-use Rattle.order.specs.Cells as order
-use Rattle.order.specs.Cells.{Block, Names, after, effect}
-use Rattle.cores.specs.Core as ipi-core
-use Rattle.sources.specs.Changes as bridge-changes
-use Rattle.device.specs.Device.{withBridge, withCore0, withCore1, withGate}
-use Rattle.cores.proofs.Cells.{core-block, core-determined, core-names}
-use Rattle.sources.specs.Cells as sources
-use Rattle.sources.proofs.Cells.{bridge-block, bridge-determined, bridge-names, rest-stays}
+use Rattle.order.specs.Cells.{Effect, Names}
+use Rattle.order.specs.Viewed.{Block}
+use Rattle.order.specs.Places.{Sized, nameAt, wordsOf}
+use Rattle.order.proofs.Places.{places-block, places-names, wordsOn}
+use Rattle.ipi.specs.declared.Cell.the-variants.{Status, Enable, MailBox}
+use Rattle.cores.specs.Core as core
+use Rattle.bridge.specs.declared.Cell.the-variants.{Mask, Msi, Route}
+use Rattle.sources.specs.Changes as changes
+use Rattle.tree.specs.Tree as tree
+use Rattle.device.specs.Device.{withCore0, withCore1, withTree}
 use Rattle.device.specs.declared.Device.{Device}
 use Rattle.reorder.specs.declared.Cell.{Cell}
 use Rattle.reorder.specs.declared.Cell.the-variants.{Core0, Core1, Bridge, Gate}
-use Rattle.reorder.specs.Order.{Whole, get, same, width}
+use Rattle.reorder.specs.Cells.{cells, get, place, rest, same, width}
+use Rattle.reorder.specs.Private.{Whole}
 
 -- a device after an effect
 abbrev pub on : Device → Cell → ℕ → ℕ → Device
-on d (Core0 c) m b = withCore0 d (ipi-core.on (d .core0) c m b)
-on d (Core1 c) m b = withCore1 d (ipi-core.on (d .core1) c m b)
-on d (Bridge c) m b = withBridge d (bridge-changes.on (d .bridge) c m b)
-on d Gate m b = withGate d (bit m 0) (bit b 0)
+on d (Core0 c) m b = withCore0 d (core.on (d .core0) c m b)
+on d (Core1 c) m b = withCore1 d (core.on (d .core1) c m b)
+on d (Bridge c) m b = withTree d (tree.withBridge (d .tree) (changes.on (d .tree .bridge) c m b))
+on d Gate m b = withTree d (tree.withGate (d .tree) (bit m 0) (bit b 0))
 
-abbrev pub apply : Device → order.Effect Cell → Device
+abbrev pub apply : Device → Effect Cell → Device
 apply d e = on d (e .cell) (e .mask) (e .bits)
 
-whole : (d : Device) → Whole d → (to : Cell) (m b : ℕ) → Whole (on d to m b)
-whole d h (Core0 c) m b = record { core0 = core-block .whole (d .core0) (h .core0) (effect c m b); core1 = h .core1; bridge = h .bridge }
-whole d h (Core1 c) m b = record { core0 = h .core0; core1 = core-block .whole (d .core1) (h .core1) (effect c m b); bridge = h .bridge }
-whole d h (Bridge c) m b = record { core0 = h .core0; core1 = h .core1; bridge = bridge-block .whole (d .bridge) (h .bridge) (effect c m b) }
-whole d h Gate m b = record { core0 = h .core0; core1 = h .core1; bridge = h .bridge }
+words-on : (d : Device) (to : Cell) (m b : ℕ) → wordsOf cells (on d to m b) ≡ wordsOn cells d (place to) m b
+words-on d (Core0 Status) m b = refl
+words-on d (Core0 Enable) m b = refl
+words-on d (Core0 (MailBox i)) m b = refl
+words-on d (Core1 Status) m b = refl
+words-on d (Core1 Enable) m b = refl
+words-on d (Core1 (MailBox i)) m b = refl
+words-on d (Bridge Mask) m b = refl
+words-on d (Bridge Msi) m b = refl
+words-on d (Bridge (Route i)) m b = refl
+words-on d Gate m b = ap (λ n. set (wordsOf cells d) 9 (n ∷ [])) (merge-one (d .tree .gate) m b)
 
-masked : (d : Device) → Whole d → (to : Cell) (m b : ℕ) (r : Cell) → get (on d to m b) r ≡ after width same (some (effect to m b)) r (get d r)
-unfolding after
-masked d h (Core0 c) m b (Core0 r) = core-block .masked (d .core0) (h .core0) (effect c m b) r
-masked d h (Core0 c) m b (Core1 r) = refl
-masked d h (Core0 c) m b (Bridge r) = refl
-masked d h (Core0 c) m b Gate = refl
-masked d h (Core1 c) m b (Core0 r) = refl
-masked d h (Core1 c) m b (Core1 r) = core-block .masked (d .core1) (h .core1) (effect c m b) r
-masked d h (Core1 c) m b (Bridge r) = refl
-masked d h (Core1 c) m b Gate = refl
-masked d h (Bridge c) m b (Core0 r) = refl
-masked d h (Bridge c) m b (Core1 r) = refl
-masked d h (Bridge c) m b (Bridge r) = bridge-block .masked (d .bridge) (h .bridge) (effect c m b) r
-masked d h (Bridge c) m b Gate = refl
-masked d h Gate m b (Core0 r) = refl
-masked d h Gate m b (Core1 r) = refl
-masked d h Gate m b (Bridge r) = refl
-masked d h Gate m b Gate = merge-one (d .gate) m b
+pub device-block : Block width get same apply (Sized cells)
+device-block = places-block cells place on words-on
 
-pub device-block : Block width get same apply Whole
-device-block = record {
-  whole = λ d h e. whole d h (e .cell) (e .mask) (e .bits);
-  masked = λ d h e. masked d h (e .cell) (e .mask) (e .bits);
-}
+named : (c : Cell) → nameAt cells (place c) ≡ some c
+named (Core0 Status) = refl
+named (Core0 Enable) = refl
+named (Core0 (MailBox i)) = refl
+named (Core1 Status) = refl
+named (Core1 Enable) = refl
+named (Core1 (MailBox i)) = refl
+named (Bridge Mask) = refl
+named (Bridge Msi) = refl
+named (Bridge (Route i)) = refl
+named Gate = refl
 
+-- each cell has one name
 pub device-names : Names same
-device-names = record { itself = itself; alone = alone }
-  where
-    itself : (r : Cell) → same r r ≡ true
-    itself (Core0 r) = core-names .itself r
-    itself (Core1 r) = core-names .itself r
-    itself (Bridge r) = bridge-names .itself r
-    itself Gate = refl
+device-names = places-names cells place named
 
-    alone : (a b : Cell) → same a b ≡ true → a ≡ b
-    alone (Core0 a) (Core0 b) e = ap Core0 (core-names .alone a b e)
-    alone (Core1 a) (Core1 b) e = ap Core1 (core-names .alone a b e)
-    alone (Bridge a) (Bridge b) e = ap Bridge (bridge-names .alone a b e)
-    alone Gate Gate e = refl
-    alone (Core0 a) (Core1 b) e = absurd (true≢false (sym e))
-    alone (Core0 a) (Bridge b) e = absurd (true≢false (sym e))
-    alone (Core0 a) Gate e = absurd (true≢false (sym e))
-    alone (Core1 a) (Core0 b) e = absurd (true≢false (sym e))
-    alone (Core1 a) (Bridge b) e = absurd (true≢false (sym e))
-    alone (Core1 a) Gate e = absurd (true≢false (sym e))
-    alone (Bridge a) (Core0 b) e = absurd (true≢false (sym e))
-    alone (Bridge a) (Core1 b) e = absurd (true≢false (sym e))
-    alone (Bridge a) Gate e = absurd (true≢false (sym e))
-    alone Gate (Core0 b) e = absurd (true≢false (sym e))
-    alone Gate (Core1 b) e = absurd (true≢false (sym e))
-    alone Gate (Bridge b) e = absurd (true≢false (sym e))
+pub sized : (d : Device) → Whole d → Sized cells d
+sized d h = λ i. 1 ∷ 1 ∷ h .mail0 i ∷ 1 ∷ 1 ∷ h .mail1 i ∷ 1 ∷ 1 ∷ h .routes i ∷ 1 ∷ []
 
--- ---- what plain writes leave: the window switch and the bridge's modes, latches, soft bits and levels
-
-pub record Rest : Type 0 where
-  pub bridge : sources.Rest
-  pub window : Bool
-
-abbrev pub rest : Device → Rest
-rest d = record { bridge = sources.rest (d .bridge); window = d .«second_open» }
+-- ---- the rest
 
 pub rest-on : (d : Device) (to : Cell) (m b : ℕ) → rest (on d to m b) ≡ rest d
 rest-on d (Core0 c) m b = refl
 rest-on d (Core1 c) m b = refl
-rest-on d (Bridge c) m b = ap (λ (r : sources.Rest). record { bridge = r; window = d .«second_open» }) (rest-stays (d .bridge) c m b)
+rest-on d (Bridge Mask) m b = refl
+rest-on d (Bridge Msi) m b = refl
+rest-on d (Bridge (Route i)) m b = refl
 rest-on d Gate m b = refl
 
 digit-same : (x y : Bool) → digit x ≡ digit y → x ≡ y
@@ -108,11 +85,33 @@ digit-same true false p = absurd (omega arith)
 digit-same false true p = absurd (omega arith)
 digit-same false false p = refl
 
-pub device-determined : (d e : Device) → Whole d → Whole e → rest d ≡ rest e → ((r : Cell) → get d r ≡ get e r) → d ≡ e
+pub device-determined : (d e : Device) → Sized cells d → Sized cells e → rest d ≡ rest e → ((r : Cell) → get d r ≡ get e r) → d ≡ e
 device-determined d e h k q s = λ i. record {
-  core0 = core-determined (d .core0) (e .core0) (h .core0) (k .core0) (λ r. s (Core0 r)) i;
-  core1 = core-determined (d .core1) (e .core1) (h .core1) (k .core1) (λ r. s (Core1 r)) i;
-  bridge = bridge-determined (d .bridge) (e .bridge) (h .bridge) (k .bridge) (ap (λ (r : Rest). r .bridge) q) (λ r. s (Bridge r)) i;
-  gate = digit-same (d .gate) (e .gate) (s Gate) i;
+  core0 = record {
+    status = s (Core0 Status) i;
+    enable = s (Core0 Enable) i;
+    mail = ext-getD 0 (d .core0 .mail) (e .core0 .mail) (size 2) (λ j l. s (Core0 (MailBox j))) i;
+  };
+  core1 = record {
+    status = s (Core1 Status) i;
+    enable = s (Core1 Enable) i;
+    mail = ext-getD 0 (d .core1 .mail) (e .core1 .mail) (size 5) (λ j l. s (Core1 (MailBox j))) i;
+  };
+  tree = record {
+    bridge = record {
+      mask = s (Bridge Mask) i;
+      msi = s (Bridge Msi) i;
+      edge = q i .edge;
+      latch = q i .latch;
+      soft = q i .soft;
+      level = q i .level;
+      routes = ext-getD 0 (d .tree .bridge .routes) (e .tree .bridge .routes) (size 8) (λ j l. s (Bridge (Route j))) i;
+    };
+    gate = digit-same (d .tree .gate) (e .tree .gate) (s Gate) i;
+  };
   «second_open» = q i .window;
 }
+  where
+    -- a row of the one has the length of that of the other
+    size : (n : ℕ) → getD (map length (wordsOf cells d)) n 0 ≡ getD (map length (wordsOf cells e)) n 0
+    size n = ap (λ l. getD l n 0) (h ∙ sym k)

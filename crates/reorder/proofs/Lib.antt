@@ -1,2 +1,3 @@
 pub mod Cells
+pub mod Covered
 pub mod Rule

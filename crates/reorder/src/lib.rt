@@ -1,10 +1,15 @@
-// The order rule of the device: the cells that plain writes reach, which writes the rule is about, and that every device meets its premise.
+// The order rule of the device: the cells that plain writes reach, what a write gives them, which writes the rule covers, and that the rule
+// holds of every device.
 ghost use mathlib.Core.Path.{_≡_};
+ghost use mathlib.Core.Bool.{true};
 ghost use lib.ListN.{length};
-ghost use Rattle.reorder.specs.Order as specs;
+ghost use Rattle.reorder.specs.Private.{Whole};
+ghost use Rattle.reorder.specs.Rule.{Ordered, viewOf};
+ghost use Rattle.reorder.specs.Writes as writes;
 use device::Device;
 use steps::Plan;
 use steps::Step;
+use tree::Write;
 
 // A cell that plain writes reach.
 pub enum Cell {
@@ -14,33 +19,124 @@ pub enum Cell {
     Gate,
 }
 
+// What a step gives, if the order rule covers it: the bits of the cell that are in mask take the values in bits.
+pub enum Given {
+    NotListed,
+    Nothing,
+    Bits { cell: Cell, mask: u64, bits: u64 },
+}
+
+// ---- the rule holds of every device
+
 fn four(mail: [u64; 4]) -> bool
-    ensures { λ r. ⌜ length mail ≡ 4 ⌝ }
+    ensures { λ r. ⌜ (r ≡ true) × (length mail ≡ 4) ⌝ }
 {
     true
 }
 
 fn sixty_four(routes: [u8; 64]) -> bool
-    ensures { λ r. ⌜ length routes ≡ 64 ⌝ }
+    ensures { λ r. ⌜ (r ≡ true) × (length routes ≡ 64) ⌝ }
 {
     true
 }
 
-// That every value of the type meets the premise of the order rule: its arrays have their lengths.
+// Every value of the type has arrays of their lengths, which is all that the rule asks of a device.
 fn whole(d: Device) -> bool
-    ensures { λ r. ⌜ specs.Whole d ⌝ }
+    ensures { λ r. ⌜ (r ≡ true) × Whole d ⌝ }
 {
     let core0 = d.core0;
     let core1 = d.core1;
-    let b = d.bridge;
+    let tree = d.tree;
+    let b = tree.bridge;
     let mail0 = core0.mail;
     let mail1 = core1.mail;
     let routes = b.routes;
-    four(mail0) && four(mail1) && sixty_four(routes)
+    four(mail0);
+    four(mail1);
+    sixty_four(routes)
 }
 
+// What the order rule compares of a device; and the promise is the order rule itself, of every device that there is.
+pub fn compared(d: Device) -> Device
+    ensures { λ r. ⌜ (r ≡ viewOf d) × Ordered d ⌝ }
+{
+    whole(d);
+    d
+}
+
+// ---- what a write gives
+
+fn bits_of(cell: Cell, mask: u64, bits: u64) -> Given
+    ensures { λ r. ⌜ r ≡ Given.Bits cell mask bits ⌝ }
+{
+    Given::Bits {
+        cell: cell,
+        mask: mask,
+        bits: bits,
+    }
+}
+
+fn core_given(effect: ipi::Effect, core: u64) -> Given
+    ensures { λ r. ⌜ r ≡ writes.givenOf (Plan.WriteCore effect core) ⌝ }
+{
+    let cell = effect.cell;
+    if core == 0 {
+        return bits_of(Cell::Core0(cell), effect.mask, effect.bits);
+    }
+    bits_of(Cell::Core1(cell), effect.mask, effect.bits)
+}
+
+fn gate_given(written: bool, on: bool) -> Given
+    ensures { λ r. ⌜ r ≡ writes.treeGiven (Write.Gate written on) ⌝ }
+{
+    if written {
+        return bits_of(Cell::Gate, 1, on as u64);
+    }
+    Given::Nothing
+}
+
+fn tree_given(write: Write) -> Given
+    ensures { λ r. ⌜ r ≡ writes.treeGiven write ⌝ }
+{
+    match write {
+        Write::Bridge(effect) => {
+            let cell = effect.cell;
+            bits_of(Cell::Bridge(cell), effect.mask, effect.bits)
+        }
+        Write::Gate { written, on } => gate_given(written, on),
+    }
+}
+
+fn plan_given(plan: Plan) -> Given
+    ensures { λ r. ⌜ r ≡ writes.givenOf plan ⌝ }
+{
+    match plan {
+        Plan::Refuse(_) => Given::Nothing,
+        Plan::WriteCore { effect, core } => core_given(effect, core),
+        Plan::WriteTree(write) => tree_given(write),
+        Plan::ReadCore {
+            register: _,
+            core: _,
+            width: _,
+        } => Given::NotListed,
+        Plan::ReadTree(_) => Given::NotListed,
+        Plan::ChangeTree(_) => Given::NotListed,
+        Plan::Window(_) => Given::NotListed,
+        Plan::Reset => Given::NotListed,
+    }
+}
+
+// What a step gives, from the window switch and the step alone.
+pub fn bits_given(second_open: bool, step: Step) -> Given
+    ensures { λ r. ⌜ r ≡ writes.givenIn «second_open» step ⌝ }
+{
+    plan_given(steps::decide(step, second_open))
+}
+
+// ---- which writes the rule covers
+
 fn is_write(step: Step) -> bool
-    ensures { λ r. ⌜ r ≡ specs.isWrite step ⌝ }
+    ensures { λ r. ⌜ r ≡ writes.isWrite step ⌝ }
 {
     match step {
         Step::BusWrite {
@@ -77,48 +173,26 @@ fn is_write(step: Step) -> bool
     }
 }
 
-fn plain(change: bridge::Change) -> bool
-    ensures { λ r. ⌜ r ≡ specs.plain change ⌝ }
+fn given_listed(given: Given) -> bool
+    ensures { λ r. ⌜ r ≡ writes.listed given ⌝ }
 {
-    match change {
-        bridge::Change::Plain(_) => true,
-        bridge::Change::Modes(_) => false,
-        bridge::Change::Soft(_) => false,
-        bridge::Change::Clear(_) => false,
-        bridge::Change::Nothing => false,
-    }
-}
-
-fn plan_listed(plan: Plan) -> bool
-    ensures { λ r. ⌜ r ≡ specs.listed plan ⌝ }
-{
-    match plan {
-        Plan::Refuse(_) => true,
-        Plan::WriteCore { effect: _, core: _ } => true,
-        Plan::WriteGate { written: _, on: _ } => true,
-        Plan::WriteBridge { register, value } => plain(bridge::write_change(register, value)),
-        Plan::ReadCore {
-            register: _,
-            core: _,
-            width: _,
-        } => false,
-        Plan::ReadGate { high: _, width: _ } => false,
-        Plan::ReadBridge(_) => false,
-        Plan::Input {
-            level: _,
-            source: _,
-        } => false,
-        Plan::Window(_) => false,
-        Plan::Reset => false,
+    match given {
+        Given::NotListed => false,
+        Given::Nothing => true,
+        Given::Bits {
+            cell: _,
+            mask: _,
+            bits: _,
+        } => true,
     }
 }
 
 // A write that may stand in a list of the order rule, refused ones included.
 pub fn listed(second_open: bool, step: Step) -> bool
-    ensures { λ r. ⌜ r ≡ specs.listedIn «second_open» step ⌝ }
+    ensures { λ r. ⌜ r ≡ writes.listedIn «second_open» step ⌝ }
 {
     if is_write(step) {
-        return plan_listed(steps::decide(step, second_open));
+        return given_listed(bits_given(second_open, step));
     }
     false
 }

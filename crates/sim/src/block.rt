@@ -1,13 +1,16 @@
-// A reorder block: the values of its writes (see parse.rt), and the pairs of them that clash.
-use crate::print::CLASH;
+// A reorder block: its writes by their values (see parse.rt), and a line for each pair of them that clashes.
+use crate::counts::more;
+use crate::print::CLASH_BRIDGE;
+use crate::print::CLASH_CORE0;
+use crate::print::CLASH_CORE1;
+use crate::print::CLASH_GATE;
 use crate::print::put_line;
-use crate::run::more;
-use crate::step::step_of;
 use clashes::Clash;
 use reorder::Cell;
+use script::step_of;
 
 // Keeps a write as the block's write i, and answers how many there are.
-pub fn keep(block: &mut [[u64; 7]; 256], i: usize, values: [u64; 7]) -> usize {
+pub(crate) fn keep(block: &mut [[u64; 7]; 256], i: usize, values: [u64; 7]) -> usize {
     if i < 256 {
         block[i] = values;
         return i + 1;
@@ -32,100 +35,92 @@ fn cell_at(line: u64, index: u64) -> Place {
     Place { line, index }
 }
 
-fn core_place(cell: ipi::Cell, status: u64, enable: u64, mailbox: u64) -> Place {
+// Of a core's cells, from the line for the first of them.
+fn core_place(cell: ipi::Cell, first: u64) -> Place {
     match cell {
-        ipi::Cell::Status => cell_at(status, 0),
-        ipi::Cell::Enable => cell_at(enable, 0),
-        ipi::Cell::MailBox(index) => cell_at(mailbox, index),
+        ipi::Cell::Status => cell_at(first, 0),
+        ipi::Cell::Enable => cell_at(more(first), 0),
+        ipi::Cell::MailBox(index) => cell_at(more(more(first)), index),
     }
 }
 
-fn bridge_place(cell: bridge::Cell) -> Place {
+fn bridge_place(cell: bridge::Cell, first: u64) -> Place {
     match cell {
-        bridge::Cell::Mask => cell_at(CLASH + 6, 0),
-        bridge::Cell::Msi => cell_at(CLASH + 7, 0),
-        bridge::Cell::Route(index) => cell_at(CLASH + 8, index),
+        bridge::Cell::Mask => cell_at(first, 0),
+        bridge::Cell::Msi => cell_at(more(first), 0),
+        bridge::Cell::Route(index) => cell_at(more(more(first)), index),
     }
 }
 
 fn place_of(cell: Cell) -> Place {
     match cell {
-        Cell::Core0(c) => core_place(c, CLASH, CLASH + 1, CLASH + 2),
-        Cell::Core1(c) => core_place(c, CLASH + 3, CLASH + 4, CLASH + 5),
-        Cell::Bridge(c) => bridge_place(c),
-        Cell::Gate => cell_at(CLASH + 9, 0),
+        Cell::Core0(c) => core_place(c, CLASH_CORE0),
+        Cell::Core1(c) => core_place(c, CLASH_CORE1),
+        Cell::Bridge(c) => bridge_place(c, CLASH_BRIDGE),
+        Cell::Gate => cell_at(CLASH_GATE, 0),
     }
 }
 
-// The place in the output, and how many pairs clash.
-pub struct Judged {
-    pub at: usize,
-    pub clashes: u64,
-}
-
-// Judges two writes, and prints a line where they clash.
-fn judge_pair(
+// Puts the line for two writes, if they clash.
+fn put_clash(
     a: [u64; 7],
     b: [u64; 7],
-    open: bool,
+    second_open: bool,
     line: u64,
     out: &mut [u8],
-    judged: Judged,
-) -> Judged {
-    match clashes::find_clash(open, step_of(a), step_of(b)) {
-        Clash::Free => judged,
+    at: usize,
+) -> usize {
+    match clashes::find_clash(second_open, step_of(a), step_of(b)) {
+        Clash::Free => at,
         Clash::On { cell, bits } => {
             let place = place_of(cell);
             let values = [line, a[6], b[6], place.index, bits];
-            Judged {
-                at: put_line(out, judged.at, place.line, values, b""),
-                clashes: more(judged.clashes),
-            }
+            put_line(out, at, place.line, values, b"")
         }
     }
 }
 
-// Judges write i against those from another on.
-fn judge_after(
+// Puts those for write i and a later one.
+fn put_clashes_of(
     block: &[[u64; 7]; 256],
     i: usize,
     from: usize,
     count: usize,
-    open: bool,
-    line: u64,
-    out: &mut [u8],
-    before: Judged,
-) -> Judged {
-    let mut judged = before;
-    let mut j = from;
-    while j < count {
-        judged = judge_pair(
-            values_at(block, i),
-            values_at(block, j),
-            open,
-            line,
-            out,
-            judged,
-        );
-        j += 1;
-    }
-    judged
-}
-
-// Judges every pair of the block's writes.
-pub fn judge(
-    block: &[[u64; 7]; 256],
-    count: usize,
-    open: bool,
+    second_open: bool,
     line: u64,
     out: &mut [u8],
     at: usize,
-) -> Judged {
-    let mut judged = Judged { at, clashes: 0 };
+) -> usize {
+    let mut next = at;
+    let mut j = from;
+    while j < count {
+        next = put_clash(
+            values_at(block, i),
+            values_at(block, j),
+            second_open,
+            line,
+            out,
+            next,
+        );
+        j += 1;
+    }
+    next
+}
+
+// Puts a line for each pair of the block's writes that clashes.
+pub(crate) fn put_clashes(
+    block: &[[u64; 7]; 256],
+    count: usize,
+    second_open: bool,
+    line: u64,
+    out: &mut [u8],
+    at: usize,
+) -> usize {
+    let mut next = at;
     let mut i = 0;
     while i < count {
-        judged = judge_after(block, i, i + 1, count, open, line, out, judged);
+        next = put_clashes_of(block, i, i + 1, count, second_open, line, out, next);
         i += 1;
     }
-    judged
+    next
 }

@@ -1,16 +1,22 @@
 // Runs step scripts: `sim FILE...` each file on a fresh device, `sim` alone its standard input.
 mod block;
+mod counts;
 mod forms;
 mod output;
 mod parse;
 mod print;
 mod run;
-mod step;
 mod words;
 
 use libc::STDIN_FILENO;
 use output::flush;
+use print::DENIED;
+use print::DIRECTORY;
+use print::FAULT;
 use print::HEADER;
+use print::LINKS;
+use print::LONG_NAME;
+use print::NO_DIRECTORY;
 use print::NO_FILE;
 use print::UNREAD;
 use print::put_error;
@@ -77,12 +83,12 @@ fn closed(chunk: &mut [u8], got: isize, held: usize) -> usize {
 fn unread(error: i32) -> u64 {
     match error {
         libc::ENOENT => NO_FILE,
-        libc::EACCES => NO_FILE + 1,
-        libc::EISDIR => NO_FILE + 2,
-        libc::ENOTDIR => NO_FILE + 3,
-        libc::ENAMETOOLONG => NO_FILE + 4,
-        libc::ELOOP => NO_FILE + 5,
-        libc::EIO => NO_FILE + 6,
+        libc::EACCES => DENIED,
+        libc::EISDIR => DIRECTORY,
+        libc::ENOTDIR => NO_DIRECTORY,
+        libc::ENAMETOOLONG => LONG_NAME,
+        libc::ELOOP => LINKS,
+        libc::EIO => FAULT,
         _ => UNREAD,
     }
 }

@@ -1,7 +1,8 @@
 // One line of a script: the numbers that say what it asks, or what is wrong with it.
+use crate::forms::ANY;
 use crate::forms::BLANK;
-use crate::forms::BUS_READ;
-use crate::forms::begun_by;
+use crate::forms::form_of;
+use crate::forms::register_named;
 use crate::print::LEVEL;
 use crate::print::LINES;
 use crate::print::MALFORMED;
@@ -20,10 +21,10 @@ use numbers::Number;
 
 // The error of a line, or NONE, and the place of the word at fault. The values are the form, then the numbers of the line by their places,
 // with that of a register at its name's place, and last the line's own number.
-pub struct Line {
-    pub error: u64,
-    pub place: usize,
-    pub values: [u64; 7],
+pub(crate) struct Line {
+    pub(crate) error: u64,
+    pub(crate) place: usize,
+    pub(crate) values: [u64; 7],
 }
 
 // What a word says, or what is wrong with it.
@@ -32,17 +33,19 @@ struct Value {
     error: u64,
 }
 
+fn right(value: u64) -> Value {
+    Value { value, error: NONE }
+}
+
+fn wrong(error: u64) -> Value {
+    Value { value: 0, error }
+}
+
 fn number(word: &[u8]) -> Value {
     match numbers::parse_number(word) {
-        Number::Value(value) => Value { value, error: NONE },
-        Number::TooLarge => Value {
-            value: 0,
-            error: TOO_LARGE,
-        },
-        Number::Malformed => Value {
-            value: 0,
-            error: MALFORMED,
-        },
+        Number::Value(value) => right(value),
+        Number::TooLarge => wrong(TOO_LARGE),
+        Number::Malformed => wrong(MALFORMED),
     }
 }
 
@@ -51,35 +54,24 @@ fn below(value: Value, limit: u64, error: u64) -> Value {
     if value.value < limit {
         return value;
     }
-    Value { value: 0, error }
+    wrong(error)
 }
 
-// The four lines, the first as the highest bit.
+// Four flags as a number, the first its lowest bit; 16 where the word is no four flags.
 fn flags(word: &[u8]) -> u64 {
     find(
-        b"0000 0001 0010 0011 0100 0101 0110 0111 1000 1001 1010 1011 1100 1101 1110 1111",
+        b"0000 1000 0100 1100 0010 1010 0110 1110 0001 1001 0101 1101 0011 1011 0111 1111",
         word,
     )
 }
 
 // The value of a word of a kind: n a number, l a level, f four flags; a fixed word has the value that is held for its place.
 fn value_of(kind: u8, word: &[u8], held: u64) -> Value {
-    let fixed = Value {
-        value: held,
-        error: NONE,
-    };
     match kind {
         b'n' => number(word),
         b'l' => below(number(word), 2, LEVEL),
-        b'f' => below(
-            Value {
-                value: flags(word),
-                error: NONE,
-            },
-            16,
-            LINES,
-        ),
-        _ => fixed,
+        b'f' => below(right(flags(word)), 16, LINES),
+        _ => right(held),
     }
 }
 
@@ -121,7 +113,7 @@ fn count_error(form: u64, count: usize, letters: usize) -> u64 {
     if count < letters {
         return MISSING;
     }
-    if form < BUS_READ {
+    if ANY <= form {
         return MISSING;
     }
     NONE
@@ -141,17 +133,13 @@ fn shaped(s: &[u8], words: Words, shape: &[u8], values: [u64; 7]) -> Line {
 }
 
 fn parse_words(s: &[u8], words: Words, line: u64) -> Line {
-    let begun = begun_by(s, words);
-    let values = [begun.form, 0, begun.register, 0, 0, 0, line];
+    let third = word(s, words, 2);
+    let register = register_named(third);
+    let form = form_of(word(s, words, 0), word(s, words, 1), third, register);
+    let values = [form, 0, register, 0, 0, 0, line];
+    // Of a form that is open the words that are known: of ANY none.
     let shape = entry(
-        b"
-w
-ww
-w
-ww
-w
-w
-wwnn
+        b"wwnn
 wwnnn
 wnwnn
 wnwnnn
@@ -168,8 +156,15 @@ wwn
 wwf
 ww
 ww
+
+w
+ww
+w
+ww
+w
+w
 ",
-        begun.form,
+        form,
     );
     shaped(s, words, shape, values)
 }
@@ -182,7 +177,7 @@ fn textless(error: u64, line: u64) -> Line {
     }
 }
 
-pub fn parse(s: &[u8], line: u64) -> Line {
+pub(crate) fn parse(s: &[u8], line: u64) -> Line {
     if 1024 < s.len() {
         return textless(TOO_LONG, line);
     }
@@ -197,6 +192,6 @@ pub fn parse(s: &[u8], line: u64) -> Line {
 }
 
 // The word at fault.
-pub fn word_at(s: &[u8], place: usize) -> &[u8] {
+pub(crate) fn word_at(s: &[u8], place: usize) -> &[u8] {
     word(s, split(s), place)
 }

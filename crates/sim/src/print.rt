@@ -1,80 +1,108 @@
 // The lines of the output, by their numbers in the tables of put_line and put_error.
+use crate::counts::more;
 use crate::forms::put_form;
 use crate::output::flushed;
-use crate::run::more;
 use crate::words::entry;
 use text::put;
 use text::put_decimal;
 use text::put_hex;
 
 // No line: nothing is wrong.
-pub const NONE: u64 = 0;
+pub(crate) const NONE: u64 = 0;
 
-pub const OK: u64 = 1;
+pub(crate) const OK: u64 = 1;
 
-pub const REFUSED: u64 = 2;
+pub(crate) const REFUSED: u64 = 2;
 
-pub const MET: u64 = 3;
+pub(crate) const MET: u64 = 3;
 
-// The first of those for an expectation that is not met, and of those for a clash.
-pub const FAILED: u64 = 4;
+// An expectation that is not met: its words, and those of what was got.
+pub(crate) const FAILED_VALUE: u64 = 4;
 
-pub const CLASH: u64 = 9;
+pub(crate) const FAILED_VALUE_REFUSED: u64 = 5;
 
-pub const FREE: u64 = 19;
+pub(crate) const FAILED_REFUSED_VALUE: u64 = 6;
 
-pub const CLASHES: u64 = 20;
+pub(crate) const FAILED_REFUSED: u64 = 7;
+
+pub(crate) const FAILED_LINES: u64 = 8;
+
+// A clash: the first line for each core, whose lines are for Status, Enable and a mailbox, for the bridge (masks, message enables, a route), and
+// the gate's.
+pub(crate) const CLASH_CORE0: u64 = 9;
+
+pub(crate) const CLASH_CORE1: u64 = 12;
+
+pub(crate) const CLASH_BRIDGE: u64 = 15;
+
+pub(crate) const CLASH_GATE: u64 = 18;
+
+pub(crate) const FREE: u64 = 19;
+
+pub(crate) const CLASHES: u64 = 20;
 
 // The last line: with no expectation, and with some.
-pub const COUNTS: u64 = 21;
+pub(crate) const COUNTS: u64 = 21;
 
-pub const JUDGED: u64 = 22;
+pub(crate) const JUDGED: u64 = 22;
 
 // Before the output of a file of several.
-pub const HEADER: u64 = 23;
+pub(crate) const HEADER: u64 = 23;
 
-// The rest are of the table of put_error. A file that cannot be read: the first, and the one for any other reason.
-pub const NO_FILE: u64 = 1;
+// The rest are of the table of put_error. A file that cannot be read, the last for any other reason.
+pub(crate) const NO_FILE: u64 = 1;
 
-pub const UNREAD: u64 = 8;
+pub(crate) const DENIED: u64 = 2;
+
+pub(crate) const DIRECTORY: u64 = 3;
+
+pub(crate) const NO_DIRECTORY: u64 = 4;
+
+pub(crate) const LONG_NAME: u64 = 5;
+
+pub(crate) const LINKS: u64 = 6;
+
+pub(crate) const FAULT: u64 = 7;
+
+pub(crate) const UNREAD: u64 = 8;
 
 // A line that cannot be read.
-pub const TOO_LONG: u64 = 9;
+pub(crate) const TOO_LONG: u64 = 9;
 
-pub const UNPRINTABLE: u64 = 10;
+pub(crate) const UNPRINTABLE: u64 = 10;
 
 // A word that is wrong.
-pub const MISSING: u64 = 11;
+pub(crate) const MISSING: u64 = 11;
 
-pub const UNEXPECTED: u64 = 12;
+pub(crate) const UNEXPECTED: u64 = 12;
 
-pub const MALFORMED: u64 = 13;
+pub(crate) const MALFORMED: u64 = 13;
 
-pub const TOO_LARGE: u64 = 14;
+pub(crate) const TOO_LARGE: u64 = 14;
 
-pub const LEVEL: u64 = 15;
+pub(crate) const LEVEL: u64 = 15;
 
-pub const LINES: u64 = 16;
+pub(crate) const LINES: u64 = 16;
 
 // A line that cannot stand where it does.
-pub const EARLY: u64 = 17;
+pub(crate) const EARLY: u64 = 17;
 
-pub const AFTER_ERROR: u64 = 18;
+pub(crate) const AFTER_ERROR: u64 = 18;
 
-pub const INSIDE: u64 = 19;
+pub(crate) const INSIDE: u64 = 19;
 
-pub const UNLISTED: u64 = 20;
+pub(crate) const UNLISTED: u64 = 20;
 
-pub const FULL: u64 = 21;
+pub(crate) const FULL: u64 = 21;
 
-pub const NESTED: u64 = 22;
+pub(crate) const NESTED: u64 = 22;
 
-pub const NO_BEGIN: u64 = 23;
+pub(crate) const NO_BEGIN: u64 = 23;
 
-pub const NO_END: u64 = 24;
+pub(crate) const NO_END: u64 = 24;
 
 // One line for 0, and another for any other number.
-pub fn line_for(n: u64, zero: u64, other: u64) -> u64 {
+pub(crate) fn line_for(n: u64, zero: u64, other: u64) -> u64 {
     if n == 0 {
         return zero;
     }
@@ -88,13 +116,13 @@ fn flag(lines: u64, line: u64) -> u8 {
     b'1'
 }
 
-// The four lines, the highest bit first.
+// The four lines, the lowest bit first.
 fn put_flags(out: &mut [u8], at: usize, lines: u64) -> usize {
     let flags = [
-        flag(lines, 8),
-        flag(lines, 4),
-        flag(lines, 2),
         flag(lines, 1),
+        flag(lines, 2),
+        flag(lines, 4),
+        flag(lines, 8),
     ];
     put(out, at, &flags)
 }
@@ -161,7 +189,7 @@ fn put_entry(
 }
 
 // Puts a line with its values and its text.
-pub fn put_line(out: &mut [u8], at: usize, n: u64, values: [u64; 5], text: &[u8]) -> usize {
+pub(crate) fn put_line(out: &mut [u8], at: usize, n: u64, values: [u64; 5], text: &[u8]) -> usize {
     put_entry(
         out,
         at,
@@ -197,7 +225,7 @@ pub fn put_line(out: &mut [u8], at: usize, n: u64, values: [u64; 5], text: &[u8]
 }
 
 // Puts the line of a file or a line in error: '@' is the form that was expected.
-pub fn put_error(out: &mut [u8], at: usize, n: u64, values: [u64; 5], text: &[u8]) -> usize {
+pub(crate) fn put_error(out: &mut [u8], at: usize, n: u64, values: [u64; 5], text: &[u8]) -> usize {
     put_entry(
         out,
         at,

@@ -1,20 +1,24 @@
 // A script that is being run, one line at a time.
-use crate::block::judge;
 use crate::block::keep;
-use crate::forms::BUS_READ;
+use crate::block::put_clashes;
+use crate::counts::counted;
+use crate::counts::more;
 use crate::forms::EXPECT_LINES;
 use crate::forms::EXPECT_REFUSED;
 use crate::forms::EXPECT_VALUE;
 use crate::forms::REORDER_BEGIN;
 use crate::forms::REORDER_END;
-use crate::forms::RESET;
 use crate::parse::parse;
 use crate::parse::word_at;
 use crate::print::AFTER_ERROR;
 use crate::print::CLASHES;
 use crate::print::COUNTS;
 use crate::print::EARLY;
-use crate::print::FAILED;
+use crate::print::FAILED_LINES;
+use crate::print::FAILED_REFUSED;
+use crate::print::FAILED_REFUSED_VALUE;
+use crate::print::FAILED_VALUE;
+use crate::print::FAILED_VALUE_REFUSED;
 use crate::print::FREE;
 use crate::print::FULL;
 use crate::print::INSIDE;
@@ -30,49 +34,36 @@ use crate::print::UNLISTED;
 use crate::print::line_for;
 use crate::print::put_error;
 use crate::print::put_line;
-use crate::step::step_of;
-use answers::Answer;
 use device::Device;
+use script::BUS_READ;
+use script::RESET;
+use script::clash_count;
+use script::step_of;
 
-pub struct Run {
-    pub device: Device,
+pub(crate) struct Run {
+    device: Device,
     // The number of the present line.
-    pub line: u64,
-    pub steps: u64,
-    pub refused: u64,
-    pub errors: u64,
-    pub passed: u64,
-    pub failed: u64,
-    // The last step's read value, its refusal number or 0, and its lines, of which the first is the highest bit.
-    pub value: u64,
-    pub refusal: u64,
-    pub lines: u64,
+    line: u64,
+    steps: u64,
+    refused: u64,
+    errors: u64,
+    passed: u64,
+    failed: u64,
+    // The last step's read value, its refusal number or 0, and its lines as a word.
+    value: u64,
+    refusal: u64,
+    lines: u64,
     // A line was in error since the last step.
-    pub after_error: bool,
+    after_error: bool,
     // The line that began the open block, or 0, and how many writes the block has.
-    pub begin: u64,
-    pub writes: usize,
+    begin: u64,
+    writes: usize,
     // The place in the output.
-    pub at: usize,
+    pub(crate) at: usize,
     // How many bytes of the next line are held, whether anything of the script was read, and whether it is over.
-    pub held: usize,
-    pub started: bool,
-    pub over: bool,
-}
-
-// A count of one more; the largest stays.
-pub fn more(n: u64) -> u64 {
-    if n < 0xffff_ffff_ffff_ffff {
-        return n + 1;
-    }
-    n
-}
-
-fn flags(answer: Answer) -> u64 {
-    (answer.ipi0 as u64) << 3
-        | (answer.ipi1 as u64) << 2
-        | (answer.bridge0 as u64) << 1
-        | answer.bridge1 as u64
+    pub(crate) held: usize,
+    pub(crate) started: bool,
+    pub(crate) over: bool,
 }
 
 // The form of the expectation that the last step meets where one of a form is judged.
@@ -97,24 +88,10 @@ fn got_of(form: u64, outcome: u64, lines: u64) -> u64 {
 // The line for an expectation of a form that the last step does not meet.
 fn line_failed(form: u64, refusal: u64) -> u64 {
     match form {
-        EXPECT_VALUE => line_for(refusal, FAILED, FAILED + 1),
-        EXPECT_REFUSED => line_for(refusal, FAILED + 2, FAILED + 3),
-        _ => FAILED + 4,
+        EXPECT_VALUE => line_for(refusal, FAILED_VALUE, FAILED_VALUE_REFUSED),
+        EXPECT_REFUSED => line_for(refusal, FAILED_REFUSED_VALUE, FAILED_REFUSED),
+        _ => FAILED_LINES,
     }
-}
-
-// Why a step cannot stand where it does: a block has writes of the order rule only.
-fn step_error(begin: u64, listed: bool, writes: usize) -> u64 {
-    if begin == 0 {
-        return NONE;
-    }
-    if !listed {
-        return UNLISTED;
-    }
-    if 255 < writes {
-        return FULL;
-    }
-    NONE
 }
 
 // Why an expectation cannot be judged.
@@ -139,17 +116,9 @@ fn wanted(values: [u64; 7]) -> u64 {
     values[2]
 }
 
-// A count that takes in a number that is not 0.
-fn counted(count: u64, n: u64) -> u64 {
-    if n == 0 {
-        return count;
-    }
-    more(count)
-}
-
 impl Run {
     // A fresh device before the first line.
-    pub fn fresh(at: usize) -> Run {
+    pub(crate) fn fresh(at: usize) -> Run {
         Run {
             device: Device::fresh(),
             line: 0,
@@ -178,7 +147,8 @@ impl Run {
         self
     }
 
-    fn step(mut self, values: [u64; 7], out: &mut [u8]) -> Run {
+    // Takes a step.
+    fn step(mut self, values: [u64; 7]) -> Run {
         let device = self.device;
         let stepped = device.step(step_of(values));
         let answer = stepped.answer;
@@ -187,10 +157,15 @@ impl Run {
         self.device = next;
         self.value = outcome.data();
         self.refusal = outcome.number();
-        self.lines = flags(answer);
+        self.lines = answer.lines();
         self.steps = more(self.steps);
-        self.after_error = false;
         self.refused = counted(self.refused, self.refusal);
+        self.after_error = false;
+        self
+    }
+
+    // Puts what the last step answered.
+    fn put_answer(mut self, out: &mut [u8]) -> Run {
         self.at = put_line(
             out,
             self.at,
@@ -209,12 +184,20 @@ impl Run {
         out: &mut [u8],
     ) -> Run {
         if self.begin == 0 {
-            return self.step(values, out);
+            return self.step(values).put_answer(out);
         }
         self.writes = keep(block, self.writes, values);
         self
     }
 
+    // Counts an expectation, which is met where nothing is missed.
+    fn count_judged(mut self, missed: u64) -> Run {
+        self.passed = counted(self.passed, (missed == 0) as u64);
+        self.failed = counted(self.failed, missed);
+        self
+    }
+
+    // Judges an expectation by the last step.
     fn expect(mut self, form: u64, wanted: u64, out: &mut [u8]) -> Run {
         let got = got_of(form, self.value | self.refusal, self.lines);
         let missed = (form_met(form, self.refusal) ^ form) | (got ^ wanted);
@@ -225,9 +208,7 @@ impl Run {
             [self.line, wanted, got, 0, 0],
             b"",
         );
-        self.passed = counted(self.passed, (missed == 0) as u64);
-        self.failed = counted(self.failed, missed);
-        self
+        self.count_judged(missed)
     }
 
     fn begin_block(mut self) -> Run {
@@ -236,40 +217,43 @@ impl Run {
         self
     }
 
+    // Puts the clashes of a block's writes, judged in the device's present state, and then the verdict.
     fn end_block(mut self, block: &[[u64; 7]; 256], out: &mut [u8]) -> Run {
         let device = self.device;
-        let judged = judge(
-            block,
-            self.writes,
-            device.second_open,
-            self.line,
-            out,
-            self.at,
-        );
+        let second_open = device.second_open;
+        let writes = self.writes;
+        let clashes = clash_count(device, block, writes);
+        self.at = put_clashes(block, writes, second_open, self.line, out, self.at);
         self.at = put_line(
             out,
-            judged.at,
-            line_for(judged.clashes, FREE, CLASHES),
-            [self.line, self.writes as u64, judged.clashes, 0, 0],
+            self.at,
+            line_for(clashes, FREE, CLASHES),
+            [self.line, writes as u64, clashes, 0, 0],
             b"",
         );
         self.begin = 0;
         self
     }
 
-    // Whether a step is a write of the order rule; only a block asks.
-    fn listed(self, values: [u64; 7]) -> bool {
+    // Why a step cannot stand where it does: a block has writes of the order rule only, and not more than fit.
+    fn step_error(self, values: [u64; 7]) -> u64 {
         if self.begin == 0 {
-            return true;
+            return NONE;
         }
         let device = self.device;
-        reorder::listed(device.second_open, step_of(values))
+        if !reorder::listed(device.second_open, step_of(values)) {
+            return UNLISTED;
+        }
+        if 255 < self.writes {
+            return FULL;
+        }
+        NONE
     }
 
     // Why a line cannot stand where it does.
     fn place_error(self, values: [u64; 7]) -> u64 {
         match values[0] {
-            BUS_READ..=RESET => step_error(self.begin, self.listed(values), self.writes),
+            BUS_READ..=RESET => self.step_error(values),
             EXPECT_VALUE..=EXPECT_LINES => expect_error(self.begin, self.steps, self.after_error),
             REORDER_BEGIN => line_for(self.begin, NONE, NESTED),
             REORDER_END => line_for(self.begin, NO_BEGIN, NONE),
@@ -297,7 +281,7 @@ impl Run {
     }
 
     // Runs the next line.
-    pub fn run_line(mut self, s: &[u8], block: &mut [[u64; 7]; 256], out: &mut [u8]) -> Run {
+    pub(crate) fn run_line(mut self, s: &[u8], block: &mut [[u64; 7]; 256], out: &mut [u8]) -> Run {
         self.held = 0;
         self.line = more(self.line);
         let line = parse(s, self.line);
@@ -310,7 +294,7 @@ impl Run {
     }
 
     // The end of the script: a block that is open is an error of the line that began it.
-    pub fn ended(mut self, out: &mut [u8]) -> Run {
+    pub(crate) fn ended(mut self, out: &mut [u8]) -> Run {
         if self.begin == 0 {
             return self;
         }
@@ -319,7 +303,7 @@ impl Run {
     }
 
     // The last line of the output.
-    pub fn put_counts(self, out: &mut [u8]) -> usize {
+    pub(crate) fn put_counts(self, out: &mut [u8]) -> usize {
         put_line(
             out,
             self.at,

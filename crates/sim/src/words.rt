@@ -2,13 +2,13 @@
 use text::same;
 
 // The first seven words of a line: no form has more than six.
-pub struct Words {
-    pub count: usize,
-    pub starts: [usize; 7],
-    pub ends: [usize; 7],
+pub(crate) struct Words {
+    pub(crate) count: usize,
+    pub(crate) starts: [usize; 7],
+    pub(crate) ends: [usize; 7],
 }
 
-pub fn split(s: &[u8]) -> Words {
+pub(crate) fn split(s: &[u8]) -> Words {
     let mut starts = [0usize; 7];
     let mut ends = [0usize; 7];
     let mut count = 0;
@@ -31,7 +31,7 @@ pub fn split(s: &[u8]) -> Words {
 }
 
 // A part of a text; nothing where the text has no such part.
-pub fn part(s: &[u8], start: usize, end: usize) -> &[u8] {
+pub(crate) fn part(s: &[u8], start: usize, end: usize) -> &[u8] {
     if start <= end {
         if end <= s.len() {
             return &s[start..end];
@@ -41,7 +41,7 @@ pub fn part(s: &[u8], start: usize, end: usize) -> &[u8] {
 }
 
 // A word of a line; nothing where the line has fewer words.
-pub fn word(s: &[u8], words: Words, i: usize) -> &[u8] {
+pub(crate) fn word(s: &[u8], words: Words, i: usize) -> &[u8] {
     if i < 7 {
         let start = words.starts[i];
         let end = words.ends[i];
@@ -51,7 +51,7 @@ pub fn word(s: &[u8], words: Words, i: usize) -> &[u8] {
 }
 
 // The number of a word in a list of at most 16; one that no word of the list has where it is not there.
-pub fn find(list: &[u8], word: &[u8]) -> u64 {
+pub(crate) fn find(list: &[u8], word: &[u8]) -> u64 {
     let mut from = 0;
     let mut n = 0;
     while n < 16 {
@@ -82,7 +82,7 @@ fn entry_start(table: &[u8], from: usize, n: u64) -> usize {
 }
 
 // An entry of a table.
-pub fn entry(table: &[u8], n: u64) -> &[u8] {
+pub(crate) fn entry(table: &[u8], n: u64) -> &[u8] {
     let start = entry_start(table, 0, n);
     let next = entry_start(table, start, 1);
     if next == 0 {

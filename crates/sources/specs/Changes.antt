@@ -1,6 +1,7 @@
 -- What becomes of the bridge (01, "Bridge registers").
---   appliedOf   a plain write's effect     changedOf   any accepted write     inputOf   an input change
---   drivenOf    new levels and soft bits, with the edge-latch rule
+--   appliedOf   a plain write's effect
+--   changedOf   any other accepted write     inputOf   an input change: what each moves (movedOf, levelledOf), settled
+--   settledOf   what follows from a change: the edge-latch rule
 use Prim.Native.Nat.{ℕ}
 use mathlib.Core.Bool.{Bool}
 use mathlib.Core.List.{List}
@@ -12,7 +13,7 @@ use Rattle.bridge.specs.declared.Cell.{Cell}
 use Rattle.bridge.specs.declared.Cell.the-variants.{Mask, Msi, Route}
 use Rattle.bridge.specs.declared.Effect.{Effect}
 use Rattle.bridge.specs.declared.Change.{Change}
-use Rattle.bridge.specs.declared.Change.the-variants.{Plain, Modes, Soft, Clear, Nothing}
+use Rattle.bridge.specs.declared.Change.the-variants.{Modes, Soft, Clear, Nothing}
 use Rattle.sources.specs.Sources.{driveWord}
 
 -- the bridge with other masks, message enables and routes; and with other modes, latches, soft bits and levels
@@ -33,18 +34,27 @@ on b (Route i) m v = withPlain b (b .mask) (b .msi) (set (b .routes) i (merge 2 
 unfoldable pub appliedOf : Bridge → Effect → Bridge
 appliedOf b e = on b (e .cell) (e .mask) (e .bits)
 
--- in edge mode, when the drive goes from 0 to 1 the latch becomes 1, masked or not
-unfoldable pub drivenOf : Bridge → ℕ → ℕ → Bridge
-drivenOf b level soft =
-    withDrive b (b .edge) (latched 64 (b .edge) (driveWord (b .level) (b .soft)) (driveWord level soft) (b .latch)) soft level
+-- ---- changes that are not plain: what the step itself moves
+
+unfoldable pub movedOf : Bridge → Change → Bridge
+movedOf b (Modes v) = withDrive b v (b .latch) (b .soft) (b .level)  -- INTEDGE leaves the latches as they are
+movedOf b (Soft v) = withDrive b (b .edge) (b .latch) v (b .level)
+movedOf b (Clear v) = withDrive b (b .edge) (merge 64 (b .latch) v 0) (b .soft) (b .level)  -- a 1 makes the latch 0, in either mode
+movedOf b Nothing = b
 
 -- the input of source i takes a level
-unfoldable pub inputOf : Bridge → ℕ → Bool → Bridge
-inputOf b i level = drivenOf b (put 64 (b .level) i level) (b .soft)
+unfoldable pub levelledOf : Bridge → ℕ → Bool → Bridge
+levelledOf b i level = withDrive b (b .edge) (b .latch) (b .soft) (put 64 (b .level) i level)
+
+-- ---- what follows from it
+
+-- in edge mode, when the drive goes from 0 to 1 the latch becomes 1, masked or not
+unfoldable pub settledOf : Bridge → Bridge → Bridge
+settledOf before b =
+    withDrive b (b .edge) (latched 64 (b .edge) (driveWord before) (driveWord b) (b .latch)) (b .soft) (b .level)
 
 unfoldable pub changedOf : Bridge → Change → Bridge
-changedOf b (Plain e) = appliedOf b e
-changedOf b (Modes v) = withDrive b v (b .latch) (b .soft) (b .level)  -- INTEDGE leaves the latches as they are
-changedOf b (Soft v) = drivenOf b (b .level) v
-changedOf b (Clear v) = withDrive b (b .edge) (merge 64 (b .latch) v 0) (b .soft) (b .level)  -- a 1 makes the latch 0, in either mode
-changedOf b Nothing = b
+changedOf b change = settledOf b (movedOf b change)
+
+unfoldable pub inputOf : Bridge → ℕ → Bool → Bridge
+inputOf b i level = settledOf b (levelledOf b i level)

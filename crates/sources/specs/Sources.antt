@@ -13,12 +13,12 @@ use Rattle.sources.specs.declared.Bridge.{Bridge}
 use Rattle.sources.specs.declared.Lines.{Lines}
 
 -- drive of a source = input level or soft bit
-abbrev pub drive : ℕ → ℕ → ℕ → Bool
-drive level soft i = bit level i || bit soft i
+abbrev pub drive : Bridge → ℕ → Bool
+drive b i = bit (b .level) i || bit (b .soft) i
 
 -- request (INTIRR) = latch in edge mode, drive in level mode
 abbrev pub requestAt : Bridge → ℕ → Bool
-requestAt b i = cond (bit (b .edge) i) (bit (b .latch) i) (drive (b .level) (b .soft) i)
+requestAt b i = cond (bit (b .edge) i) (bit (b .latch) i) (drive b i)
 
 -- request, and not masked, and message enable 0
 abbrev pub pendingAt : Bridge → ℕ → Bool
@@ -37,8 +37,8 @@ linesOf b = record { chip0 = lineOf b 0; chip1 = lineOf b 1 }
 
 -- ---- the same as words
 
-unfoldable pub driveWord : ℕ → ℕ → ℕ
-driveWord level soft = word 64 (drive level soft)
+unfoldable pub driveWord : Bridge → ℕ
+driveWord b = word 64 (drive b)
 
 unfoldable pub requestWord : Bridge → ℕ
 requestWord b = word 64 (requestAt b)

@@ -1,10 +1,10 @@
 // Section 8.1: the 64 sources of the bridge: drive, request, in service, and the two outputs.
 ghost use mathlib.Core.Path.{_≡_};
-ghost use mathlib.Core.Bool.{not, _&&_};
+ghost use mathlib.Core.Bool.{not, _&&_, _||_};
 ghost use lib.ListN.{getD, set};
 ghost use Rattle.bits.specs.Bits.{bit, merge, word};
 ghost use Rattle.sources.specs.Sources.{driveWord, inServiceWord, linesOf, pendingAt, readOf, requestWord};
-ghost use Rattle.sources.specs.Changes.{appliedOf, changedOf, drivenOf, inputOf};
+ghost use Rattle.sources.specs.Changes.{appliedOf, changedOf, inputOf, levelledOf, movedOf, settledOf};
 use bridge::Cell;
 use bridge::Change;
 use bridge::Effect;
@@ -59,10 +59,10 @@ fn route_merge(old: u8, mask: u64, value: u64) -> u8
     (bits::merge(old as u64, mask, value) % 4) as u8
 }
 
-fn drives(level: u64, soft: u64) -> u64
-    ensures { λ r. ⌜ r ≡ driveWord level soft ⌝ }
+fn either(a: u64, b: u64) -> u64
+    ensures { λ r. ⌜ r ≡ word 64 (λ i. bit a i || bit b i) ⌝ }
 {
-    level | soft
+    a | b
 }
 
 // The requests that are neither masked nor sent as messages.
@@ -72,18 +72,25 @@ fn unmasked(request: u64, mask: u64, msi: u64) -> u64
     request & (!mask & !msi)
 }
 
-fn common(a: u64, b: u64) -> u64
+fn both(a: u64, b: u64) -> u64
     ensures { λ r. ⌜ r ≡ word 64 (λ i. bit a i && bit b i) ⌝ }
 {
     a & b
 }
 
 impl Bridge {
+    // The input or the soft bit.
+    fn drive(self) -> u64
+        ensures { λ r. ⌜ r ≡ driveWord self ⌝ }
+    {
+        either(self.level, self.soft)
+    }
+
     // INTIRR: the latch in edge mode, the drive in level mode.
     fn requests(self) -> u64
         ensures { λ r. ⌜ r ≡ requestWord self ⌝ }
     {
-        bits::merge(drives(self.level, self.soft), self.edge, self.latch)
+        bits::merge(self.drive(), self.edge, self.latch)
     }
 
     fn pending(self) -> u64
@@ -97,7 +104,7 @@ impl Bridge {
         ensures { λ r. ⌜ r ≡ inServiceWord self k ⌝ }
     {
         let routes = self.routes;
-        common(self.pending(), lanes::gather(routes, k))
+        both(self.pending(), lanes::gather(routes, k))
     }
 
     // Some source is in service for each of the two outputs.
@@ -105,10 +112,10 @@ impl Bridge {
         ensures { λ r. ⌜ r ≡ linesOf self ⌝ }
     {
         let routes = self.routes;
-        let both = lanes::united(routes, self.pending()) as u64;
+        let outputs = lanes::united(routes, self.pending()) as u64;
         Lines {
-            chip0: bits::test(both, 0),
-            chip1: bits::test(both, 1),
+            chip0: bits::test(outputs, 0),
+            chip1: bits::test(outputs, 1),
         }
     }
 
@@ -133,7 +140,7 @@ impl Bridge {
     }
 
     // The bridge after an effect of a plain write.
-    fn applied(mut self, effect: Effect) -> Bridge
+    pub fn applied(mut self, effect: Effect) -> Bridge
         ensures { λ r. ⌜ r ≡ appliedOf self effect ⌝ }
     {
         let routes = self.routes;
@@ -157,28 +164,19 @@ impl Bridge {
         }
     }
 
-    // New input levels and soft bits: in edge mode a source whose drive rises is latched.
-    fn driven(mut self, level: u64, soft: u64) -> Bridge
-        ensures { λ r. ⌜ r ≡ drivenOf self level soft ⌝ }
-    {
-        let before = drives(self.level, self.soft);
-        self.latch = bits::latched(self.edge, before, drives(level, soft), self.latch);
-        self.level = level;
-        self.soft = soft;
-        self
-    }
-
-    // The bridge after an accepted write.
-    pub fn changed(mut self, change: Change) -> Bridge
-        ensures { λ r. ⌜ r ≡ changedOf self change ⌝ }
+    // What a change itself moves.
+    fn moved(mut self, change: Change) -> Bridge
+        ensures { λ r. ⌜ r ≡ movedOf self change ⌝ }
     {
         match change {
-            Change::Plain(effect) => self.applied(effect),
             Change::Modes(value) => {
                 self.edge = value;
                 self
             }
-            Change::Soft(value) => self.driven(self.level, value),
+            Change::Soft(value) => {
+                self.soft = value;
+                self
+            }
             Change::Clear(value) => {
                 self.latch = bits::merge(self.latch, value, 0);
                 self
@@ -187,10 +185,32 @@ impl Bridge {
         }
     }
 
+    // What follows from a change: in edge mode a source whose drive has risen since `before` is latched.
+    fn settled(mut self, before: Bridge) -> Bridge
+        ensures { λ r. ⌜ r ≡ settledOf before self ⌝ }
+    {
+        self.latch = bits::latched(self.edge, before.drive(), self.drive(), self.latch);
+        self
+    }
+
+    // The bridge after a change that is not plain.
+    pub fn changed(self, change: Change) -> Bridge
+        ensures { λ r. ⌜ r ≡ changedOf self change ⌝ }
+    {
+        self.moved(change).settled(self)
+    }
+
+    fn levelled(mut self, source: u64, level: bool) -> Bridge
+        ensures { λ r. ⌜ r ≡ levelledOf self source level ⌝ }
+    {
+        self.level = bits::put(self.level, source, level);
+        self
+    }
+
     // The bridge after an input change.
     pub fn input(self, source: u64, level: bool) -> Bridge
         ensures { λ r. ⌜ r ≡ inputOf self source level ⌝ }
     {
-        self.driven(bits::put(self.level, source, level), self.soft)
+        self.levelled(source, level).settled(self)
     }
 }

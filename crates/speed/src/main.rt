@@ -75,10 +75,6 @@ fn row_step(row: [u64; 7], x: u64) -> Step {
     step_of(row[0], row[1], place, row[4], value)
 }
 
-fn lines(a: Answer) -> u64 {
-    (a.ipi0 as u64) | ((a.ipi1 as u64) << 1) | ((a.bridge0 as u64) << 2) | ((a.bridge1 as u64) << 3)
-}
-
 // The checksum with an answer: the value or the refusal number, and the four lines.
 fn answer_folded(sum: u64, a: Answer) -> u64 {
     let outcome = a.outcome;
@@ -86,7 +82,7 @@ fn answer_folded(sum: u64, a: Answer) -> u64 {
         Outcome::Value(value) => value,
         Outcome::Refused(refusal) => refusal_number(refusal) << 56,
     };
-    ((sum << 7) | (sum >> 57)) ^ word ^ (lines(a) << 60)
+    ((sum << 7) | (sum >> 57)) ^ word ^ (a.lines() << 60)
 }
 
 // The checksum with a word of the end state. Its many operations keep the compiler from unrolling the loop over the routes: unrolled, each
@@ -125,11 +121,12 @@ fn bridge_folded(sum: u64, bridge: Bridge) -> u64 {
 fn device_folded(sum: u64, d: Device) -> u64 {
     let core0 = d.core0;
     let core1 = d.core1;
-    let bridge = d.bridge;
+    let tree = d.tree;
+    let bridge = tree.bridge;
     let cores = core_folded(core_folded(sum, core0), core1);
     folded(
         bridge_folded(cores, bridge),
-        (d.gate as u64) | ((d.second_open as u64) << 1),
+        (tree.gate as u64) | ((d.second_open as u64) << 1),
     )
 }
 

@@ -15,10 +15,10 @@
 // 4 rows of 64 are refused; in MESSAGES 3 are, and the second window, closed an eighth of the time, makes up the fourth.
 // Counted over ten million steps (gcc -DCOUNTS): the gate is open for 0.87 of the steps of SPARSE and DENSE; pending are 2.2 sources in
 // SPARSE and 32.5 in DENSE, of which a walk that ends once both lines are high looks at 1.5 and 16.
-pub const SEED: u64 = 0x9e3779b97f4a7c15;
+pub(crate) const SEED: u64 = 0x9e3779b97f4a7c15;
 
 // Messages only: every message register of both cores by every path and width, both sends with every byte mask.
-pub const MESSAGES_FIRST: [[u64; 7]; 32] = [
+pub(crate) const MESSAGES_FIRST: [[u64; 7]; 32] = [
     // Bus, first window.
     [0, 0, 0x1fe01000, 0x104, 4, 0, 0], // read Status, Enable
     [1, 0, 0x1fe01004, 0x100, 4, 0xffffffff, 0], // write Enable
@@ -57,7 +57,7 @@ pub const MESSAGES_FIRST: [[u64; 7]; 32] = [
     [3, 1, 0x1020, 0x1c, 4, 0xffffffff, 0], // write a half
 ];
 
-pub const MESSAGES_LAST: [[u64; 7]; 32] = [
+pub(crate) const MESSAGES_LAST: [[u64; 7]; 32] = [
     [3, 1, 0x1040, 0, 4, 0xfc01ffff, 0], // IPI_Send
     [3, 1, 0x1048, 0, 8, 0xfffffffffc01ffff, 0], // Mail_Send
     [3, 1, 0x1040, 0, 4, 0xfc01ffff, 0], // IPI_Send
@@ -97,7 +97,7 @@ pub const MESSAGES_LAST: [[u64; 7]; 32] = [
 ];
 
 // The first half of SPARSE and of DENSE.
-pub const BRIDGE_FIRST: [[u64; 7]; 32] = [
+pub(crate) const BRIDGE_FIRST: [[u64; 7]; 32] = [
     // Bus, first window.
     [0, 0, 0x1fe01000, 0x104, 4, 0, 0], // read Status, Enable
     [1, 0, 0x1fe01004, 0x100, 4, 0x101, 0], // write Enable
@@ -139,7 +139,7 @@ pub const BRIDGE_FIRST: [[u64; 7]; 32] = [
 ];
 
 // A few sources pending, the gate open: all but eight sources are masked, and those at times.
-pub const SPARSE_LAST: [[u64; 7]; 32] = [
+pub(crate) const SPARSE_LAST: [[u64; 7]; 32] = [
     [4, 3, 0, 0, 0, 0, 0], // SOFT_INT
     [4, 4, 0, 0, 0, 0, 0], // AUTO_CTRL0
     [4, 7, 0, 0, 0, 0, 0], // INTISR_CHIP0
@@ -179,7 +179,7 @@ pub const SPARSE_LAST: [[u64; 7]; 32] = [
 ];
 
 // Half of all sources pending, the gate open.
-pub const DENSE_LAST: [[u64; 7]; 32] = [
+pub(crate) const DENSE_LAST: [[u64; 7]; 32] = [
     [4, 3, 0, 0, 0, 0, 0], // SOFT_INT
     [4, 4, 0, 0, 0, 0, 0], // AUTO_CTRL0
     [4, 7, 0, 0, 0, 0, 0], // INTISR_CHIP0

@@ -5,38 +5,40 @@
 --   decideOf                                      the plan of a step
 use Prim.Native.Nat.{ℕ}
 use mathlib.Core.Bool.{Bool, true, false, cond}
-use lib.Dec.{eqb, ltb}
-use Rattle.bits.specs.Bits.{bit}
-use Rattle.access.specs.declared.Refusal.the-variants.{Source}
 use Rattle.access.specs.declared.Verdict.{Verdict}
 use Rattle.access.specs.declared.Verdict.the-variants as verdict
+use Rattle.access.specs.Refusal.{firstOf}
 use Rattle.ipi.specs.Effect.{effectOf, targetOf}
 use Rattle.windows.specs.declared.Place.{Place}
 use Rattle.windows.specs.declared.Place.the-variants.{Message, Gate, GateHigh}
 use Rattle.windows.specs.Table.{busAt, privateAt}
 use Rattle.admission.specs.declared.Admission.{Admission}
 use Rattle.admission.specs.declared.Admission.the-variants.{Refused, At}
-use Rattle.admission.specs.Admission.{busAdmission, privateAdmission}
+use Rattle.admission.specs.Refusals.{bridgeRefusals, busAdmission, inputRefusals, privateAdmission}
 use Rattle.bridge.specs.declared.Register.{Register}
-use Rattle.bridge.specs.Registers.{verdictOf}
+use Rattle.bridge.specs.declared.Written.{Written}
+use Rattle.bridge.specs.declared.Written.the-variants.{Plain, Changed}
+use Rattle.bridge.specs.Registers.{writtenOf}
+use Rattle.tree.specs.declared.Read.the-variants as read
+use Rattle.tree.specs.declared.Write.the-variants as write
+use Rattle.tree.specs.declared.Change.the-variants as change
+use Rattle.tree.specs.Tree.{gateWritten}
 use Rattle.steps.specs.declared.Step.{Step}
 use Rattle.steps.specs.declared.Step.the-variants as step
 use Rattle.steps.specs.declared.Plan.{Plan}
-use Rattle.steps.specs.declared.Plan.the-variants.{Refuse, ReadCore, WriteCore, ReadGate, WriteGate, ReadBridge, WriteBridge, Input, Window, Reset}
+use Rattle.steps.specs.declared.Plan.the-variants.{Refuse, ReadCore, WriteCore, ReadTree, WriteTree, ChangeTree, Window, Reset}
 
 -- ---- what an accepted access does
 
 unfoldable pub readPlan : Place → ℕ → Plan
 readPlan (Message core register) width = ReadCore register core width
-readPlan Gate width = ReadGate false width
-readPlan GateHigh width = ReadGate true width
+readPlan Gate width = ReadTree (read.Gate false width)
+readPlan GateHigh width = ReadTree (read.Gate true width)
 
--- a message register is written by its effect; of the word at 0x0420 only bit 48, the gate, is held, which a write of 4 bytes
--- at 0x0420 does not reach, and which 0x0424 has as its bit 16
 unfoldable pub writePlan : Place → ℕ → ℕ → Plan
 writePlan (Message core register) width value = WriteCore (effectOf register width value) (targetOf register core value)
-writePlan Gate width value = WriteGate (eqb width 8) (bit value 48)
-writePlan GateHigh width value = WriteGate true (bit value 16)
+writePlan Gate width value = WriteTree (gateWritten false width value)
+writePlan GateHigh width value = WriteTree (gateWritten true width value)
 
 unfoldable pub accessPlan : Place → ℕ → Bool → ℕ → Plan
 accessPlan place width true value = writePlan place width value
@@ -60,14 +62,17 @@ abbrev pub planned : Verdict → Plan → Plan
 planned verdict.Accepted plan = plan
 planned (verdict.Refused reason) plan = Refuse reason
 
--- Bridge: 7, 5, 6, 8, as the registers' own list has them
+-- a plain write, or another change
+unfoldable pub writtenPlan : Written → Plan
+writtenPlan (Plain effect) = WriteTree (write.Bridge effect)
+writtenPlan (Changed c) = ChangeTree (change.Bridge c)
+
 unfoldable pub bridgePlan : Register → Bool → ℕ → Plan
 bridgePlan register write value =
-    planned (verdictOf register write value) (cond write (WriteBridge register value) (ReadBridge register))
+    planned (firstOf (bridgeRefusals register write value)) (cond write (writtenPlan (writtenOf register value)) (ReadTree (read.Bridge register)))
 
--- Input change: 7
 unfoldable pub inputPlan : ℕ → Bool → Plan
-inputPlan source level = cond (ltb 63 source) (Refuse Source) (Input level source)
+inputPlan source level = planned (firstOf (inputRefusals source)) (ChangeTree (change.Input level source))
 
 -- ---- every kind of step
 

@@ -2,12 +2,16 @@
 ghost use mathlib.Core.Path.{_≡_};
 ghost use mathlib.Core.Bool.{Bool};
 ghost use Rattle.windows.specs.Table.{busAt, privateAt};
-ghost use Rattle.admission.specs.Admission.{busAdmission, privateAdmission};
-ghost use Rattle.steps.specs.Decide.{accessPlan, admittedPlan, bridgePlan, decideOf, inputPlan, readPlan, writePlan};
-ghost use Rattle.steps.specs.Stages.{judgedPlan, requestPlan};
+ghost use Rattle.admission.specs.Refusals.{busAdmission, privateAdmission};
+ghost use Rattle.steps.specs.Decide.{accessPlan, admittedPlan, bridgePlan, decideOf, inputPlan, readPlan, writePlan, writtenPlan};
+ghost use Rattle.steps.specs.Private.{judgedPlan, requestPlan};
 use access::Refusal;
 use access::Verdict;
 use admission::Admission;
+use bridge::Written;
+use tree::Change;
+use tree::Read;
+use tree::Write;
 use windows::Place;
 
 // One case for each kind of step.
@@ -49,8 +53,9 @@ pub enum Step {
     Reset,
 }
 
-// What a step does. Where a case holds a small enum or a flag and a number, the small one stands first: so the cases lie alike in memory, and a
-// plan stays in registers where they meet.
+// What a step does, by the class of cells and by what the order rule says of it: of the accepted steps, it is about those that write
+// a core or the tree. Where a case holds a small enum or a flag and a number, the small one stands first: so the cases lie alike in
+// memory, and a plan stays in registers where they meet.
 pub enum Plan {
     Refuse(Refusal),
     ReadCore {
@@ -62,23 +67,9 @@ pub enum Plan {
         effect: ipi::Effect,
         core: u64,
     },
-    ReadGate {
-        high: bool,
-        width: u64,
-    },
-    WriteGate {
-        written: bool,
-        on: bool,
-    },
-    ReadBridge(bridge::Register),
-    WriteBridge {
-        register: bridge::Register,
-        value: u64,
-    },
-    Input {
-        level: bool,
-        source: u64,
-    },
+    ReadTree(Read),
+    WriteTree(Write),
+    ChangeTree(Change),
     Window(bool),
     Reset,
 }
@@ -145,15 +136,18 @@ fn write_plan(place: Place, width: u64, value: u64) -> Plan
             effect: ipi::write_effect(register, width, value),
             core: ipi::target(register, core, value),
         },
-        Place::Gate => Plan::WriteGate {
-            written: width == 8,
-            on: bits::test(value, 48),
-        },
-        Place::GateHigh => Plan::WriteGate {
-            written: true,
-            on: bits::test(value, 16),
-        },
+        Place::Gate => Plan::WriteTree(tree::gate_written(false, width, value)),
+        Place::GateHigh => Plan::WriteTree(tree::gate_written(true, width, value)),
     }
+}
+
+fn gate_read(high: bool, width: u64) -> Plan
+    ensures { λ r. ⌜ r ≡ Plan.ReadTree (Read.Gate high width) ⌝ }
+{
+    Plan::ReadTree(Read::Gate {
+        high: high,
+        width: width,
+    })
 }
 
 // What an accepted read does.
@@ -166,14 +160,8 @@ fn read_plan(place: Place, width: u64) -> Plan
             core: core,
             width: width,
         },
-        Place::Gate => Plan::ReadGate {
-            high: false,
-            width: width,
-        },
-        Place::GateHigh => Plan::ReadGate {
-            high: true,
-            width: width,
-        },
+        Place::Gate => gate_read(false, width),
+        Place::GateHigh => gate_read(true, width),
     }
 }
 
@@ -196,34 +184,39 @@ fn admitted_plan(admission: Admission, width: u64, write: bool, value: u64) -> P
     }
 }
 
-// Bridge: 7, 5, 6, 8.
+// What an accepted write to a bridge register does.
+fn written_plan(written: Written) -> Plan
+    ensures { λ r. ⌜ r ≡ writtenPlan written ⌝ }
+{
+    match written {
+        Written::Plain(effect) => Plan::WriteTree(Write::Bridge(effect)),
+        Written::Changed(change) => Plan::ChangeTree(Change::Bridge(change)),
+    }
+}
+
 fn bridge_plan(register: bridge::Register, write: bool, value: u64) -> Plan
     ensures { λ r. ⌜ r ≡ bridgePlan register write value ⌝ }
 {
-    match bridge::judge(register, write, value) {
+    match admission::bridge_verdict(register, write, value) {
         Verdict::Refused(refusal) => Plan::Refuse(refusal),
         Verdict::Accepted => {
             if write {
-                return Plan::WriteBridge {
-                    register: register,
-                    value: value,
-                };
+                return written_plan(bridge::write(register, value));
             }
-            Plan::ReadBridge(register)
+            Plan::ReadTree(Read::Bridge(register))
         }
     }
 }
 
-// Input change: 7.
 fn input_plan(source: u64, level: bool) -> Plan
     ensures { λ r. ⌜ r ≡ inputPlan source level ⌝ }
 {
-    if 63 < source {
-        return Plan::Refuse(Refusal::Source);
-    }
-    Plan::Input {
-        level: level,
-        source: source,
+    match admission::input_verdict(source) {
+        Verdict::Refused(refusal) => Plan::Refuse(refusal),
+        Verdict::Accepted => Plan::ChangeTree(Change::Input {
+            level: level,
+            source: source,
+        }),
     }
 }
 

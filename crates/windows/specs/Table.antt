@@ -1,5 +1,5 @@
 -- The windows (01, "Bus window" and "Private window"): which register starts at an address or an offset.
---   busAt   by bus address     privateAt   by a core's private offset
+--   busAt   by bus address     privateAt   by a core's private offset     messageTable, gateTable   the rows of a window
 use Prim.Native.Nat.{ℕ}
 use mathlib.Core.Bool.{Bool, true, false}
 use mathlib.Core.List.{List, [], _∷_, _++_}
@@ -31,12 +31,6 @@ messageTable second = based 0 (onCore 0 second) table ++ based 0x100 (onCore 1 s
 -- offset 0x0420: 8 bytes, or 4 bytes at 0x0420 or 0x0424
 unfoldable pub gateTable : List (Row Located)
 gateTable = row 0x0420 (locate Gate FourOrEight) ∷ row 0x0424 (locate GateHigh Four) ∷ []
-
-unfoldable pub messageAt : Bool → ℕ → Located
-messageAt second offset = lookup Nowhere (messageTable second) offset
-
-unfoldable pub firstAt : ℕ → Located
-firstAt offset = lookup Nowhere (gateTable ++ messageTable false) offset
 
 abbrev pub unchanged : Located → Located
 unchanged l = l

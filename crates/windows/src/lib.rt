@@ -1,6 +1,7 @@
 // The bus window and the private window of each core: which register an address or an offset names.
 ghost use mathlib.Core.Path.{_≡_};
-ghost use Rattle.windows.specs.Table.{busAt, firstAt, locate, messageAt, onCore, privateAt};
+ghost use Rattle.windows.specs.Table.{busAt, locate, onCore, privateAt};
+ghost use Rattle.windows.specs.Private.{firstAt, messageAt};
 use access::Access;
 use access::Rights;
 use access::Widths;

@@ -1,11 +1,11 @@
-use Rattle.access.specs.Access.{judged}
+use Rattle.access.specs.Access.{accessRefusals}
 use Rattle.bits.proofs.Tests.{tests}
 use borrow.Author.Needs.{needs}
 use Rattle.access.proofs.judge.Statement.{statement}
 use Rattle.access.proofs.judge.Tie as tie
 
 pub judge-spec : {M : Type 1} → statement M
-unfolding judged
+unfolding accessRefusals
 judge-spec =
     tie.close
     (tie.spec

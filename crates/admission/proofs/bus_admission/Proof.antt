@@ -1,11 +1,11 @@
-use Rattle.admission.specs.Admission.{busAdmission}
+use Rattle.admission.specs.Refusals.{busAdmission, busRefusals}
 use Rattle.bits.proofs.Tests.{tests}
 use borrow.Author.Needs.{needs}
 use Rattle.admission.proofs.bus_admission.Statement.{statement}
 use Rattle.admission.proofs.bus_admission.Tie as tie
 
 pub bus-admission-spec : {M : Type 1} → statement M
-unfolding busAdmission
+unfolding busAdmission busRefusals
 bus-admission-spec =
     tie.close
     (tie.spec

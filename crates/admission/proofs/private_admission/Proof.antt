@@ -1,12 +1,10 @@
-use Rattle.admission.proofs.Verdicts.{private-core}
-use Rattle.admission.specs.Admission.{privateAdmission}
+use Rattle.admission.proofs.Verdicts.{private-core, private-nowhere}
 use Rattle.bits.proofs.Tests.{tests}
 use borrow.Author.Needs.{needs}
 use Rattle.admission.proofs.private_admission.Statement.{statement}
 use Rattle.admission.proofs.private_admission.Tie as tie
 
 pub private-admission-spec : {M : Type 1} → statement M
-unfolding privateAdmission
 private-admission-spec =
     tie.close
     (tie.spec
@@ -14,6 +12,6 @@ private-admission-spec =
     (λ c. search needs)  -- enum-told
     (λ c. search needs)  -- enum-known-located
     (λ c κs. search needs)  -- private-located-requires
-    (λ c. search (tests, c .enum-told .given .1, c .before .before .if1 .left))  -- returns-2
+    (λ c. rw (c .enum-told .given .1) (private-nowhere _ _ _ _ (c .before .before .if1 .left)))  -- returns-2
     (λ c. search (tests, ← c .private-located .ensures, c .before .before .located .given .1))  -- returns-3
     )

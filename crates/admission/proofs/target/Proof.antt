@@ -1,4 +1,4 @@
-use Rattle.admission.specs.Admission.{targetAt}
+use Rattle.admission.specs.Refusals.{targetAt}
 use Rattle.bits.proofs.Tests.{tests}
 use borrow.Author.Needs.{needs}
 use Rattle.admission.proofs.target.Statement.{statement}

@@ -9,13 +9,13 @@ unfolding clashOf
 find-clash-spec =
     tie.close
     (tie.spec
-    (λ c κs. search needs)  -- decide-requires
-    (λ c κs. search needs)  -- plan-effect-requires
-    (λ c κs. search needs)  -- decide-requires-2
-    (λ c κs. search needs)  -- plan-effect-requires-2
+    (λ c κs. search needs)  -- bits-given-requires
+    (λ c κs. search needs)  -- bits-given-requires-2
     (λ c. search needs)  -- enum-told
-    (λ c. search needs)  -- enum-known-e
+    (λ c. search needs)  -- enum-told-2
+    (λ c. search needs)  -- enum-known-cell
     (λ c κs. search needs)  -- clash-with-requires
-    (λ c. search (tests, c .enum-told .given .1, ← c .before .before .plan-effect2 .ensures, ← c .before .before .before .decide2 .ensures, ← c .before .before .before .before .plan-effect .ensures, ← c .before .before .before .before .before .decide .ensures))  -- returns
-    (λ c. search (tests, ← c .clash-with .ensures, c .before .before .e .given .1, ← c .before .before .before .before .plan-effect2 .ensures, ← c .before .before .before .before .before .decide2 .ensures, ← c .before .before .before .before .before .before .plan-effect .ensures, ← c .before .before .before .before .before .before .before .decide .ensures))  -- returns-2
+    (λ c. search (tests, c .enum-told .given .1, ← c .before .before .bits-given2 .ensures, ← c .before .before .before .bits-given .ensures))  -- returns
+    (λ c. search (tests, c .enum-told2 .given .1, ← c .before .before .bits-given2 .ensures, ← c .before .before .before .bits-given .ensures))  -- returns-2
+    (λ c. search (tests, ← c .clash-with .ensures, c .before .before .cell .given .1, ← c .before .before .before .before .bits-given2 .ensures, ← c .before .before .before .before .before .bits-given .ensures))  -- returns-3
     )

@@ -1,4 +1,4 @@
-use Rattle.reorder.specs.Order.{listedIn}
+use Rattle.reorder.specs.Writes.{listedIn}
 use Rattle.bits.proofs.Tests.{tests}
 use borrow.Author.Needs.{needs}
 use Rattle.reorder.proofs.listed.Statement.{statement}
@@ -10,8 +10,8 @@ listed-spec =
     tie.close
     (tie.spec
     (λ c κs. search needs)  -- is-write-requires
-    (λ c κs. search needs)  -- decide-requires
-    (λ c κs. search needs)  -- plan-listed-requires
-    (λ c. search (tests, ← c .plan-listed .ensures, ← c .before .decide .ensures, c .before .before .if1 .taken, ← c .before .before .before .is-write .ensures))  -- returns
+    (λ c κs. search needs)  -- bits-given-requires
+    (λ c κs. search needs)  -- given-listed-requires
+    (λ c. search (tests, ← c .given-listed .ensures, ← c .before .bits-given .ensures, c .before .before .if1 .taken, ← c .before .before .before .is-write .ensures))  -- returns
     (λ c. search (tests, c .if1 .left, ← c .before .is-write .ensures))  -- returns-2
     )

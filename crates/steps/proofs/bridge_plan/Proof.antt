@@ -8,10 +8,12 @@ unfolding bridgePlan
 bridge-plan-spec =
     tie.close
     (tie.spec
-    (λ c κs. search needs)  -- judge-requires
+    (λ c κs. search needs)  -- bridge-verdict-requires
     (λ c. search needs)  -- enum-known-refusal
     (λ c. search needs)  -- enum-told
-    (λ c. rw (← c .before .before .before .judge .ensures, c .before .enum-told .given .1, c .if1 .taken))  -- returns
-    (λ c. rw (← c .before .before .before .judge .ensures, c .before .refusal .given .1))  -- returns-2
-    (λ c. rw (← c .before .before .before .judge .ensures, c .before .enum-told .given .1, c .if1 .left))  -- returns-3
+    (λ c κs. search needs)  -- write-requires
+    (λ c κs. search needs)  -- written-plan-requires
+    (λ c. rw (← c .before .before .before .before .before .bridge-verdict .ensures, c .before .before .before .enum-told .given .1, c .before .before .if1 .taken, ← c .before .write .ensures) (c .written-plan .ensures))  -- returns
+    (λ c. rw (← c .before .before .before .bridge-verdict .ensures, c .before .refusal .given .1))  -- returns-2
+    (λ c. rw (← c .before .before .before .bridge-verdict .ensures, c .before .enum-told .given .1, c .if1 .left))  -- returns-3
     )

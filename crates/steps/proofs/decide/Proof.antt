@@ -1,4 +1,4 @@
-use Rattle.steps.specs.Stages.{judgedPlan}
+use Rattle.steps.specs.Private.{judgedPlan}
 use borrow.Author.Needs.{needs}
 use Rattle.steps.proofs.decide.Statement.{statement}
 use Rattle.steps.proofs.decide.Tie as tie

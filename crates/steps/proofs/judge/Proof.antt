@@ -1,4 +1,4 @@
-use Rattle.steps.specs.Stages.{judgedPlan, requestPlan}
+use Rattle.steps.specs.Private.{judgedPlan, requestPlan}
 use Rattle.bits.proofs.Tests.{tests}
 use borrow.Author.Needs.{needs}
 use Rattle.steps.proofs.judge.Statement.{statement}

@@ -1,5 +1,5 @@
 use Rattle.steps.specs.Decide.{decideOf}
-use Rattle.steps.specs.Stages.{requestPlan}
+use Rattle.steps.specs.Private.{requestPlan}
 use borrow.Author.Needs.{needs}
 use Rattle.steps.proofs.requested.Statement.{statement}
 use Rattle.steps.proofs.requested.Tie as tie

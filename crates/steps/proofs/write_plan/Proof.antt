@@ -13,10 +13,10 @@ write-plan-spec =
     (λ c κs. search needs)  -- write-effect-requires
     (λ c κs. search needs)  -- target-requires
     (λ c. search needs)  -- enum-told
-    (λ c κs. search needs)  -- test-requires
+    (λ c κs. search needs)  -- gate-written-requires
     (λ c. search needs)  -- enum-told-2
-    (λ c κs. search needs)  -- test-requires-2
+    (λ c κs. search needs)  -- gate-written-requires-2
     (λ c. search (tests, ← c .target .ensures, ← c .before .write-effect .ensures, c .before .before .before .place .given .1))  -- returns
-    (λ c. search (tests, ← c .test .ensures, c .before .enum-told .given .1))  -- returns-2
-    (λ c. search (tests, ← c .test2 .ensures, c .before .enum-told2 .given .1))  -- returns-3
+    (λ c. search (tests, ← c .gate-written .ensures, c .before .enum-told .given .1))  -- returns-2
+    (λ c. search (tests, ← c .gate-written2 .ensures, c .before .enum-told2 .given .1))  -- returns-3
     )

@@ -1,7 +1,7 @@
 -- `text::put_decimal` meets its contract.
 use borrow.Author.Needs.{needs}
-use Rattle.numbers.specs.Printed.{decimalOf}
-use Rattle.numbers.proofs.Printed.{ended-start, ended-text}
+use Rattle.numbers.proofs.Printed.{ended-start}
+use Rattle.text.proofs.Buffers.{put-digits}
 use Rattle.text.proofs.put_decimal.Statement.{statement}
 use Rattle.text.proofs.put_decimal.Tie as tie
 
@@ -10,7 +10,7 @@ put-decimal-spec =
     tie.close
     (tie.spec
     (λ c κs. search needs)  -- decimal-requires
-    (λ c κs. ended-start (decimalOf (c .before .before .before .before .args .n)) (c .before .before .decimal .result) (c .before .before .decimal .ensures))  -- put-end-requires
+    (λ c κs. search ended-start)  -- put-end-requires
     (λ c. search needs)  -- same-length
-    (λ c. rw (ended-text (decimalOf (c .before .before .before .before .before .before .before .args .n)) (c .before .before .before .before .before .decimal .result) (c .before .before .before .before .before .decimal .ensures)) at (c .before .before .put-end .ensures))  -- returns
+    (λ c. search put-digits)  -- returns
     )

@@ -20,19 +20,19 @@ same-spec =
     (tie.spec
     Inv-loop
     μ-loop
-    (λ c. sym (same-lengths (c .before .args .a .now) (c .before .args .b .now) (c .if1 .taken)))  -- returns
+    (λ c. sym (same-lengths (c .before .args .a .now) (c .before .args .b .now) (λ e. omega arith)))  -- returns
     (λ c. refl)  -- loop-holds
     (λ c. omega arith)  -- shared-slice-read-if2
     (λ c. omega arith)  -- shared-slice-read-if2-2
     (λ c.
     let a = c .before .before .before .before .before .before .args in
     let l = c .before .before .before .before .loop in
-    sym (same-stop (a .a .now) (a .b .now) (l .i) (omega arith) (omega arith) (c .if2 .taken)) ∙ l .inv)  -- returns-2
+    sym (same-stop (a .a .now) (a .b .now) (l .i) (omega arith) (omega arith) (λ e. omega arith)) ∙ l .inv)  -- returns-2
     (λ c. omega arith)  -- add-i
     (λ c. omega arith)  -- loop-less
     (λ c.
     let a = c .before .before .before .before .before .before .args in
     let l = c .before .before .before .before .loop in
-    sym (same-more (a .a .now) (a .b .now) (l .i) (omega arith) (omega arith) (c .if2 .left)) ∙ l .inv)  -- loop-again
+    sym (same-more (a .a .now) (a .b .now) (l .i) (omega arith) (omega arith) (omega arith)) ∙ l .inv)  -- loop-again
     (λ c. sym (same-end (c .before .before .before .args .a .now) (c .before .before .before .args .b .now) (c .before .loop .i) (omega arith) (omega arith)) ∙ c .before .loop .inv)  -- returns-3
     )

@@ -1,4 +1,4 @@
-use Rattle.answers.specs.Outcome.{outcomeData}
+use Rattle.answers.specs.Answers.{outcomeData}
 use Rattle.bits.proofs.Tests.{tests}
 use borrow.Author.Needs.{needs}
 use Rattle.answers.proofs.Outcome.data.Statement.{statement}

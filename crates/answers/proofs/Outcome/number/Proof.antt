@@ -1,4 +1,4 @@
-use Rattle.answers.specs.Outcome.{outcomeNumber}
+use Rattle.answers.specs.Answers.{outcomeNumber}
 use Rattle.bits.proofs.Tests.{tests}
 use borrow.Author.Needs.{needs}
 use Rattle.answers.proofs.Outcome.number.Statement.{statement}

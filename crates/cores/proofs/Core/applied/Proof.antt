@@ -1,5 +1,7 @@
+use Prim.Native.Nat.{ℕ}
 use Rattle.cores.specs.Core.{appliedOf}
-use Rattle.cores.proofs.Own.{own-status, own-enable, own-mail}
+use Rattle.bits.proofs.Cond.{cond-ap}
+use Rattle.cores.proofs.Own.{own-mail}
 use borrow.Author.Needs.{needs}
 use Rattle.cores.proofs.Core.applied.Statement.{statement}
 use Rattle.cores.proofs.Core.applied.Tie as tie
@@ -20,7 +22,16 @@ applied-spec =
     (λ c κs. search needs)  -- merge-requires
     (λ c κs. search needs)  -- choose-requires
     (λ c κs. search needs)  -- put-mailbox-requires
-    (λ c. let a = c .before .before .before .before .before .args in rw (c .choose32 .ensures, c .before .merge32 .ensures, c .before .before .enum-told .given .1) (own-status (a .self) (a .own) _))  -- returns
-    (λ c. let a = c .before .before .before .before .before .args in rw (c .choose322 .ensures, c .before .merge322 .ensures, c .before .before .enum-told2 .given .1) (own-enable (a .self) (a .own) _))  -- returns-2
-    (λ c. let a = c .before .before .before .before .before .before .before .before .args in rw (c .put-mailbox .ensures, c .before .choose .ensures, c .before .before .merge .ensures, c .before .before .before .mailbox .ensures, c .before .before .before .before .before .cell .given .1) (own-mail (a .self) (a .own) _ _))  -- returns-3
+    (λ c.
+    let a = c .before .before .before .before .before .args in
+    rw (c .choose32 .ensures, c .before .merge32 .ensures, c .before .before .enum-told .given .1)
+    (cond-ap (λ (w : ℕ). record { status = w; enable = a .self .enable; mail = a .self .mail }) (a .own) _ _))  -- returns
+    (λ c.
+    let a = c .before .before .before .before .before .args in
+    rw (c .choose322 .ensures, c .before .merge322 .ensures, c .before .before .enum-told2 .given .1)
+    (cond-ap (λ (w : ℕ). record { status = a .self .status; enable = w; mail = a .self .mail }) (a .own) _ _))  -- returns-2
+    (λ c.
+    let a = c .before .before .before .before .before .before .before .before .args in
+    rw (c .put-mailbox .ensures, c .before .choose .ensures, c .before .before .merge .ensures, c .before .before .before .mailbox .ensures, c .before .before .before .before .before .cell .given .1)
+    (own-mail (a .self) (a .own) _ _))  -- returns-3
     )

@@ -8,8 +8,8 @@ unfolding answeredOf
 answered-spec =
     tie.close
     (tie.spec
-    (λ c κs. search needs)  -- bridge-lines-requires
+    (λ c κs. search needs)  -- lines-requires
     (λ c κs. search needs)  -- line-requires
     (λ c κs. search needs)  -- line-requires-2
-    (λ c. rw (c .line2 .ensures, c .before .line .ensures, c .before .before .bridge-lines .ensures))  -- returns
+    (λ c. rw (c .line2 .ensures, c .before .line .ensures, c .before .before .lines .ensures))  -- returns
     )

@@ -13,6 +13,6 @@ in-service-spec =
     (tie.spec
     (λ c κs. search needs)  -- pending-requires
     (λ c κs. search needs)  -- gather-requires
-    (λ c κs. search needs)  -- common-requires
-    (λ c. c .common .ensures ∙ simp (c .before .gather .ensures, c .before .before .pending .ensures) (word-cong 64 (λ i h. rw (bit-word 64 _ i h, bit-word 64 _ i h))))  -- returns
+    (λ c κs. search needs)  -- both-requires
+    (λ c. c .both .ensures ∙ simp (c .before .gather .ensures, c .before .before .pending .ensures) (word-cong 64 (λ i h. rw (bit-word 64 _ i h, bit-word 64 _ i h))))  -- returns
     )

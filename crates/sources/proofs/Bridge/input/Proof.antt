@@ -9,7 +9,7 @@ unfolding inputOf
 input-spec =
     tie.close
     (tie.spec
-    (λ c κs. search needs)  -- put-requires
-    (λ c κs. search needs)  -- driven-requires
-    (λ c. search (tests, ← c .driven .ensures, ← c .before .put .ensures))  -- returns
+    (λ c κs. search needs)  -- levelled-requires
+    (λ c κs. search needs)  -- settled-requires
+    (λ c. search (tests, ← c .settled .ensures, ← c .before .levelled .ensures))  -- returns
     )

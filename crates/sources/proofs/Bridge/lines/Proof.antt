@@ -10,7 +10,7 @@ lines-spec =
     (tie.spec
     (λ c κs. search needs)  -- pending-requires
     (λ c κs. search needs)  -- united-requires
-    (λ c. search needs)  -- cast-both
+    (λ c. search needs)  -- cast-outputs
     (λ c κs. search needs)  -- test-requires
     (λ c κs. search needs)  -- test-requires-2
     (λ c.

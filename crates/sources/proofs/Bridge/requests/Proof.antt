@@ -11,7 +11,7 @@ unfolding driveWord requestWord merge
 requests-spec =
     tie.close
     (tie.spec
-    (λ c κs. search needs)  -- drives-requires
+    (λ c κs. search needs)  -- drive-requires
     (λ c κs. search needs)  -- merge-requires
-    (λ c. c .merge .ensures ∙ simp (c .before .drives .ensures) (word-cong 64 (λ i h. rw (bit-word 64 _ i h))))  -- returns
+    (λ c. c .merge .ensures ∙ simp (c .before .drive .ensures) (word-cong 64 (λ i h. rw (bit-word 64 _ i h))))  -- returns
     )

@@ -1,0 +1,24 @@
+use Prim.Native.Nat.{ℕ}
+use mathlib.Core.Bool.{Bool, false}
+use native.Mathlib.Omega.{arith}
+use lib.ListN.{getD}
+use borrow.Author.Needs.{needs}
+use Rattle.bits.proofs.Operations.{push}
+use Rattle.answers.proofs.Lines.{word-one}
+use Rattle.answers.specs.Answers.{flagsOf, linesWord}
+use Rattle.answers.proofs.Answer.lines.Statement.{statement}
+use Rattle.answers.proofs.Answer.lines.Tie as tie
+
+pub lines-spec : {M : Type 1} → statement M
+unfolding linesWord
+lines-spec =
+    tie.close
+    (tie.spec
+    (λ c. search needs)  -- cast-result
+    (λ c. search needs)  -- cast-result-2
+    (λ c. search needs)  -- cast-result-3
+    (λ c. search needs)  -- cast-result-4
+    (λ c.
+    let f : ℕ → Bool = λ i. getD (flagsOf (c .before .before .before .before .args .self)) i false
+    in rw (← push 64 3 f (omega arith), ← push 64 2 f (omega arith), ← push 64 1 f (omega arith), word-one f))  -- returns
+    )

@@ -1,0 +1,24 @@
+use mathlib.Core.Path.{_∙_}
+use Rattle.clashes.proofs.Clashes.{core-spot}
+use Rattle.bits.proofs.Tests.{tests}
+use borrow.Author.Needs.{needs}
+use Rattle.clashes.proofs.spot_of.Statement.{statement}
+use Rattle.clashes.proofs.spot_of.Tie as tie
+
+pub spot-of-spec : {M : Type 1} → statement M
+spot-of-spec =
+    tie.close
+    (tie.spec
+    (λ c. search needs)  -- enum-known-cell
+    (λ c κs. search needs)  -- message-spot-requires
+    (λ c. search needs)  -- enum-known-cell-2
+    (λ c κs. search needs)  -- message-spot-requires-2
+    (λ c. search needs)  -- enum-known-cell-3
+    (λ c κs. search needs)  -- source-spot-requires
+    (λ c. search needs)  -- enum-told
+    (λ c κs. search needs)  -- at-requires
+    (λ c. search (tests, ← c .message-spot .ensures, c .before .before .cell .given .1))  -- returns
+    (λ c. rw (c .before .before .cell2 .given .1) (c .message-spot2 .ensures ∙ core-spot (c .before .before .cell2 .given .0 .0)))  -- returns-2
+    (λ c. search (tests, ← c .source-spot .ensures, c .before .before .cell3 .given .1))  -- returns-3
+    (λ c. search (tests, ← c .at .ensures, c .before .enum-told .given .1))  -- returns-4
+    )

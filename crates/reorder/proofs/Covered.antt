@@ -1,0 +1,27 @@
+-- Each bullet of "Which writes the order rule covers", by computation of the definitions.
+use mathlib.Core.Path.{refl}
+use Rattle.ipi.specs.Effect as ipi
+use Rattle.bridge.specs.Registers.{writtenOf}
+use Rattle.tree.specs.Tree.{gateWritten}
+use Rattle.steps.specs.Decide.{writePlan, writtenPlan}
+use Rattle.reorder.specs.Writes.{givenOf, treeGiven}
+use Rattle.reorder.specs.Covered.{Covered}
+
+pub covered : Covered
+unfolding givenOf treeGiven writePlan writtenPlan writtenOf gateWritten ipi.effectOf ipi.targetOf ipi.ipiSent ipi.mailSent
+covered = record {
+  enable = λ c w v. refl;
+  set = λ c w v. refl;
+  clear = λ c w v. refl;
+  ipi-send = λ c w v. refl;
+  mailbox = λ c i v. refl;
+  low-half = λ c i v. refl;
+  high-half = λ c i w v. refl;
+  mail-send = λ c w v. refl;
+  gate = λ v. refl;
+  gate-high = λ w v. refl;
+  gate-low = λ v. refl;
+  int-mask = λ v. refl;
+  msi-en = λ v. refl;
+  route-entry = λ i v. refl;
+}

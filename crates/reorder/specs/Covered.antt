@@ -1,0 +1,57 @@
+-- 01, "Which writes the order rule covers", bullet by bullet: what each write gives where it is accepted. The values are those of
+-- `effectOf` in crates/ipi/specs/Effect.antt, `gateWritten` in crates/tree/specs/Tree.antt and `writtenOf` in
+-- crates/bridge/specs/Registers.antt, which demand 2's step uses too; proofs/Covered has each line by computation.
+--   Covered   the bullets     ofAccess, ofBridge   what an accepted write gives, by the place it reaches and by the register's name
+use Prim.Native.Nat.{ℕ, _/_, _^_}
+use mathlib.Core.Path.{_≡_}
+use Rattle.bits.specs.Bits.{bit, digit, field}
+use Rattle.lanes.specs.Bytes.{writtenBytes}
+use Rattle.ipi.specs.declared.Register.the-variants as ipi
+use Rattle.ipi.specs.declared.Cell.the-variants as cell
+use Rattle.ipi.specs.Effect.{inHalf}
+use Rattle.bridge.specs.declared.Register.{Register}
+use Rattle.bridge.specs.declared.Register.the-variants as bridge
+use Rattle.bridge.specs.declared.Cell.the-variants as source
+use Rattle.bridge.specs.Registers.{writtenOf}
+use Rattle.windows.specs.declared.Place.{Place}
+use Rattle.windows.specs.declared.Place.the-variants as place
+use Rattle.steps.specs.Decide.{writePlan, writtenPlan}
+use Rattle.reorder.specs.declared.Cell.the-variants.{Bridge, Gate}
+use Rattle.reorder.specs.declared.Given.{Given}
+use Rattle.reorder.specs.declared.Given.the-variants.{Nothing, Bits}
+use Rattle.reorder.specs.Writes.{givenOf, ofCore}
+
+-- by every path: bus and private accesses reach a place, bridge accesses name a register
+abbrev pub ofAccess : Place → ℕ → ℕ → Given
+ofAccess p width value = givenOf (writePlan p width value)
+
+abbrev pub ofBridge : Register → ℕ → Given
+ofBridge register value = givenOf (writtenPlan (writtenOf register value))
+
+pub record Covered : Type 0 where
+  -- IPI_Enable: the value's bits, to that core's Enable.
+  pub enable : (c w v : ℕ) → ofAccess (place.Message c ipi.Enable) w v ≡ Bits (ofCore c cell.Enable) 0xffffffff v
+  -- IPI_Set: 1 to each Status bit where the value has 1. IPI_Clear: 0 there. IPI_Send: 1 to Status bit v of the target.
+  pub set : (c w v : ℕ) → ofAccess (place.Message c ipi.Set) w v ≡ Bits (ofCore c cell.Status) v v
+  pub clear : (c w v : ℕ) → ofAccess (place.Message c ipi.Clear) w v ≡ Bits (ofCore c cell.Status) v 0
+  pub ipi-send : (c w v : ℕ)
+      → ofAccess (place.Message c ipi.IpiSend) w v ≡ Bits (ofCore (field v 25 16) cell.Status) (2 ^ field v 4 0) (2 ^ field v 4 0)
+  -- Mailbox: the value's bits, to all 64 or to the half written.
+  pub mailbox : (c i v : ℕ) → ofAccess (place.Message c (ipi.MailBox i)) 8 v ≡ Bits (ofCore c (cell.MailBox i)) 0xffffffffffffffff v
+  pub low-half : (c i v : ℕ) → ofAccess (place.Message c (ipi.MailBox i)) 4 v ≡ Bits (ofCore c (cell.MailBox i)) 0xffffffff (inHalf 0 v)
+  pub high-half : (c i w v : ℕ)
+      → ofAccess (place.Message c (ipi.MailBoxHigh i)) w v ≡ Bits (ofCore c (cell.MailBox i)) 0xffffffff00000000 (inHalf 1 v)
+  -- Mail_Send: each data byte whose mask bit is 0, to that byte of the half.
+  pub mail-send : (c w v : ℕ)
+      → ofAccess (place.Message c ipi.MailSend) w v
+      ≡ Bits (ofCore (field v 25 16) (cell.MailBox (field v 4 2 / 2))) (inHalf (field v 4 2) (writtenBytes 4 (field v 30 27)))
+      (inHalf (field v 4 2) (field v 63 32))
+  -- Offset 0x0420, width 8: bit 48, to the gate. 0x0424: bit 16, to the gate. 0x0420, width 4: nothing.
+  pub gate : (v : ℕ) → ofAccess place.Gate 8 v ≡ Bits Gate 1 (digit (bit v 48))
+  pub gate-high : (w v : ℕ) → ofAccess place.GateHigh w v ≡ Bits Gate 1 (digit (bit v 16))
+  pub gate-low : (v : ℕ) → ofAccess place.Gate 4 v ≡ Nothing
+  -- INT_MASK, MSI_EN: the value's bits, to all 64 masks or message enables.
+  pub int-mask : (v : ℕ) → ofBridge bridge.IntMask v ≡ Bits (Bridge source.Mask) 0xffffffffffffffff v
+  pub msi-en : (v : ℕ) → ofBridge bridge.MsiEn v ≡ Bits (Bridge source.Msi) 0xffffffffffffffff v
+  -- ROUTE_ENTRY: bits 0 and 1, to its source's two route bits.
+  pub route-entry : (i v : ℕ) → ofBridge (bridge.RouteEntry i) v ≡ Bits (Bridge (source.Route i)) 3 v

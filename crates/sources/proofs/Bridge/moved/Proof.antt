@@ -1,0 +1,21 @@
+use Rattle.sources.specs.Changes.{movedOf}
+use Rattle.bits.proofs.Tests.{tests}
+use borrow.Author.Needs.{needs}
+use Rattle.sources.proofs.Bridge.moved.Statement.{statement}
+use Rattle.sources.proofs.Bridge.moved.Tie as tie
+
+pub moved-spec : {M : Type 1} → statement M
+unfolding movedOf
+moved-spec =
+    tie.close
+    (tie.spec
+    (λ c. search needs)  -- enum-known-change
+    (λ c. search needs)  -- enum-known-change-2
+    (λ c. search needs)  -- enum-known-change-3
+    (λ c κs. search needs)  -- merge-requires
+    (λ c. search needs)  -- enum-told
+    (λ c. search (tests, c .before .change .given .1))  -- returns
+    (λ c. search (tests, c .before .change2 .given .1))  -- returns-2
+    (λ c. search (tests, ← c .merge .ensures, c .before .before .change3 .given .1))  -- returns-3
+    (λ c. search (tests, c .enum-told .given .1))  -- returns-4
+    )

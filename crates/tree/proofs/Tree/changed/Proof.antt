@@ -1,0 +1,20 @@
+use Rattle.tree.specs.Tree.{changedOf}
+use Rattle.bits.proofs.Tests.{tests}
+use borrow.Author.Needs.{needs}
+use Rattle.tree.proofs.Tree.changed.Statement.{statement}
+use Rattle.tree.proofs.Tree.changed.Tie as tie
+
+pub changed-spec : {M : Type 1} → statement M
+unfolding changedOf
+changed-spec =
+    tie.close
+    (tie.spec
+    (λ c. search needs)  -- enum-known-change
+    (λ c κs. search needs)  -- changed-requires
+    (λ c κs. search needs)  -- with-bridge-requires
+    (λ c. search needs)  -- enum-known-change-2
+    (λ c κs. search needs)  -- input-requires
+    (λ c κs. search needs)  -- with-bridge-requires-2
+    (λ c. search (tests, ← c .with-bridge .ensures, ← c .before .changed .ensures, c .before .before .before .change .given .1))  -- returns
+    (λ c. search (tests, ← c .with-bridge2 .ensures, ← c .before .input .ensures, c .before .before .before .change2 .given .1))  -- returns-2
+    )

@@ -1,0 +1,19 @@
+use Rattle.tree.specs.Tree.{writtenOf}
+use Rattle.bits.proofs.Tests.{tests}
+use borrow.Author.Needs.{needs}
+use Rattle.tree.proofs.Tree.written.Statement.{statement}
+use Rattle.tree.proofs.Tree.written.Tie as tie
+
+pub written-spec : {M : Type 1} → statement M
+unfolding writtenOf
+written-spec =
+    tie.close
+    (tie.spec
+    (λ c. search needs)  -- enum-known-write
+    (λ c κs. search needs)  -- applied-requires
+    (λ c κs. search needs)  -- with-bridge-requires
+    (λ c. search needs)  -- enum-known-write-2
+    (λ c κs. search needs)  -- with-gate-requires
+    (λ c. search (tests, ← c .with-bridge .ensures, ← c .before .applied .ensures, c .before .before .before .write .given .1))  -- returns
+    (λ c. search (tests, ← c .with-gate .ensures, c .before .before .write2 .given .1))  -- returns-2
+    )
