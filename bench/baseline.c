@@ -369,7 +369,8 @@ static enum refusal bridge_write(struct bridge *b, uint64_t reg, uint64_t source
     case MSI_EN:
         b->msi = value;
         break;
-    case INTEDGE:
+    case INTEDGE: // a source taken from edge to level mode loses its latch
+        b->latch &= ~b->edge | value;
         b->edge = value;
         break;
     case SOFT_INT:

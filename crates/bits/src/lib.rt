@@ -57,9 +57,23 @@ pub fn common32(a: u32, b: u32) -> bool
     a & b != 0
 }
 
-// The latches after the drive went from `before` to `after`.
-pub fn latched(edge: u64, before: u64, after: u64, latch: u64) -> u64
-    ensures { λ r. ⌜ r ≡ latches.latched 64 edge before after latch ⌝ }
+// The latches after the drives went from `before` to `after`: set by a rise in edge mode.
+fn risen(edge: u64, before: u64, after: u64, latch: u64) -> u64
+    ensures { λ r. ⌜ r ≡ latches.risen 64 edge before after latch ⌝ }
 {
     latch | (edge & (!before & after))
+}
+
+// The latches after the modes went from `old` to `new`: cleared where edge mode is left.
+fn cleared(old: u64, new: u64, latch: u64) -> u64
+    ensures { λ r. ⌜ r ≡ latches.cleared 64 old new latch ⌝ }
+{
+    latch & !(old & !new)
+}
+
+// The latches after both.
+pub fn latched(old: u64, new: u64, before: u64, after: u64, latch: u64) -> u64
+    ensures { λ r. ⌜ r ≡ latches.latched 64 old new before after latch ⌝ }
+{
+    risen(new, before, after, cleared(old, new, latch))
 }

@@ -74,9 +74,6 @@ fn show_first(n: u64) {
 fn show_last(n: u64) {
     show_line(
         b"9c INTIRR
-9d the same with the latch 1, INTCLR = 8
-9d INTIRR
-9d INTIRR in edge mode
 10a INTCLR = 8
 10a INTIRR
 10b SOFT_INT = 8

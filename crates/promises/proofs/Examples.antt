@@ -1,7 +1,7 @@
 -- The starred examples of 01 hold, by computation of the definitions.
 use mathlib.Core.Path.{refl}
 use Rattle.bits.specs.Bits.{bit, word, merge, put, some}
-use Rattle.bits.specs.Latch.{latched}
+use Rattle.bits.specs.Latch.{risen, cleared, latched}
 use Rattle.lanes.specs.Bytes.{writtenBytes}
 use Rattle.access.specs.Refusal.{refusalNumber}
 use Rattle.access.specs.Access.{accessRefusals, fitting, listed, permitted}
@@ -21,5 +21,5 @@ use Rattle.device.specs.Step.{nextOf, outcomeOf, stepOf}
 use Rattle.promises.specs.Examples.{AsPrinted, examples, runOf}
 
 pub as-printed : AsPrinted
-unfolding examples runOf stepOf nextOf outcomeOf outcomeData outcomeNumber answeredOf startOf resetOf decide.decideOf decide.inputPlan decide.bridgePlan decide.writtenPlan decide.admittedPlan decide.accessPlan decide.readPlan decide.writePlan refusals.busAdmission refusals.busRefusals refusals.privateAdmission refusals.privateRefusals refusals.bridgeRefusals refusals.inputRefusals refusals.targetAt accessRefusals refusalNumber fitting listed permitted busAt privateAt gateTable messageTable table sends entryAt privateEntryAt effects.effectOf effects.targetOf effects.ipiSent effects.mailSent effects.inHalf cores.appliedOf cores.readOf cores.lineOf registers.rowOf registers.sized registers.distributed registers.writtenOf tree.withLevels tree.freshOf tree.resetOf tree.readOf tree.gateWritten tree.writtenOf tree.changedOf sources.lineOf sources.driveWord sources.requestWord sources.inServiceWord sources.readOf changes.appliedOf changes.movedOf changes.levelledOf changes.settledOf changes.changedOf changes.inputOf latched writtenBytes bit word merge put some
+unfolding examples runOf stepOf nextOf outcomeOf outcomeData outcomeNumber answeredOf startOf resetOf decide.decideOf decide.inputPlan decide.bridgePlan decide.writtenPlan decide.admittedPlan decide.accessPlan decide.readPlan decide.writePlan refusals.busAdmission refusals.busRefusals refusals.privateAdmission refusals.privateRefusals refusals.bridgeRefusals refusals.inputRefusals refusals.targetAt accessRefusals refusalNumber fitting listed permitted busAt privateAt gateTable messageTable table sends entryAt privateEntryAt effects.effectOf effects.targetOf effects.ipiSent effects.mailSent effects.inHalf cores.appliedOf cores.readOf cores.lineOf registers.rowOf registers.sized registers.distributed registers.writtenOf tree.withLevels tree.freshOf tree.resetOf tree.readOf tree.gateWritten tree.writtenOf tree.changedOf sources.lineOf sources.driveWord sources.requestWord sources.inServiceWord sources.readOf changes.appliedOf changes.movedOf changes.levelledOf changes.settledOf changes.changedOf changes.inputOf latched risen cleared writtenBytes bit word merge put some
 as-printed = refl

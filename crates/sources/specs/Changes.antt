@@ -37,7 +37,7 @@ appliedOf b e = on b (e .cell) (e .mask) (e .bits)
 -- ---- changes that are not plain: what the step itself moves
 
 unfoldable pub movedOf : Bridge → Change → Bridge
-movedOf b (Modes v) = withDrive b v (b .latch) (b .soft) (b .level)  -- INTEDGE leaves the latches as they are
+movedOf b (Modes v) = withDrive b v (b .latch) (b .soft) (b .level)
 movedOf b (Soft v) = withDrive b (b .edge) (b .latch) v (b .level)
 movedOf b (Clear v) = withDrive b (b .edge) (merge 64 (b .latch) v 0) (b .soft) (b .level)  -- a 1 makes the latch 0, in either mode
 movedOf b Nothing = b
@@ -48,10 +48,10 @@ levelledOf b i level = withDrive b (b .edge) (b .latch) (b .soft) (put 64 (b .le
 
 -- ---- what follows from it
 
--- in edge mode, when the drive goes from 0 to 1 the latch becomes 1, masked or not
+-- in edge mode, when the drive goes from 0 to 1 the latch becomes 1, masked or not; where the mode goes from 1 to 0 it becomes 0 (Q-1)
 unfoldable pub settledOf : Bridge → Bridge → Bridge
 settledOf before b =
-    withDrive b (b .edge) (latched 64 (b .edge) (driveWord before) (driveWord b) (b .latch)) (b .soft) (b .level)
+    withDrive b (b .edge) (latched 64 (before .edge) (b .edge) (driveWord before) (driveWord b) (b .latch)) (b .soft) (b .level)
 
 unfoldable pub changedOf : Bridge → Change → Bridge
 changedOf b change = settledOf b (movedOf b change)

@@ -185,11 +185,17 @@ impl Bridge {
         }
     }
 
-    // What follows from a change: in edge mode a source whose drive has risen since `before` is latched.
+    // What follows from a change: the edge-latch rule, from the modes and drives before it to those after it.
     fn settled(mut self, before: Bridge) -> Bridge
         ensures { λ r. ⌜ r ≡ settledOf before self ⌝ }
     {
-        self.latch = bits::latched(self.edge, before.drive(), self.drive(), self.latch);
+        self.latch = bits::latched(
+            before.edge,
+            self.edge,
+            before.drive(),
+            self.drive(),
+            self.latch,
+        );
         self
     }
 

@@ -14,7 +14,7 @@
 //
 // 4 rows of 64 are refused; in MESSAGES 3 are, and the second window, closed an eighth of the time, makes up the fourth.
 // Counted over ten million steps (gcc -DCOUNTS): the gate is open for 0.87 of the steps of SPARSE and DENSE; pending are 2.2 sources in
-// SPARSE and 32.5 in DENSE, of which a walk that ends once both lines are high looks at 1.5 and 16.
+// SPARSE and 32.9 in DENSE, of which a walk that ends once both lines are high looks at 1.5 and 16.
 pub(crate) const SEED: u64 = 0x9e3779b97f4a7c15;
 
 // Messages only: every message register of both cores by every path and width, both sends with every byte mask.
@@ -151,7 +151,7 @@ pub(crate) const SPARSE_LAST: [[u64; 7]; 32] = [
     [5, 0, 0, 0, 0, 0x8020040100804021, 0x7fdffbfeff7fbfde], // INT_MASK
     [5, 1, 0, 0, 0, 0x101010101010101, 0], // MSI_EN
     [5, 2, 0, 0, 0, 0x3333333333333333, 0], // INTEDGE
-    [5, 3, 0, 0, 0, 0x5555555555555555, 0], // SOFT_INT
+    [5, 3, 0, 0, 0, 0xfdfdfdfdfdfdfdfd, 0], // SOFT_INT
     [5, 5, 0, 0, 0, 0, 0], // AUTO_CTRL1
     [5, 6, 0, 0, 0, 0xf0f0f0f0f0f0f0f, 0], // INTCLR
     [5, 10, 0, 0x3f, 0, 0xff, 0], // ROUTE_ENTRY
@@ -191,7 +191,7 @@ pub(crate) const DENSE_LAST: [[u64; 7]; 32] = [
     [5, 0, 0, 0, 0, 0x1111111111111111, 0], // INT_MASK
     [5, 1, 0, 0, 0, 0x101010101010101, 0], // MSI_EN
     [5, 2, 0, 0, 0, 0x3333333333333333, 0], // INTEDGE
-    [5, 3, 0, 0, 0, 0x5555555555555555, 0], // SOFT_INT
+    [5, 3, 0, 0, 0, 0xfdfdfdfdfdfdfdfd, 0], // SOFT_INT
     [5, 5, 0, 0, 0, 0, 0], // AUTO_CTRL1
     [5, 6, 0, 0, 0, 0xf0f0f0f0f0f0f0f, 0], // INTCLR
     [5, 10, 0, 0x1f, 0, 0xfd, 0], // ROUTE_ENTRY
