@@ -1,4 +1,5 @@
-// Runs the examples of 01 ("Examples on each side") that the proved table leaves, and says of each whether the device does what 01 says.
+// Runs the examples of 01 ("Examples on each side") that the proved table leaves, and says of each whether the device does what 01 says, or the request
+// that changed it (11: Q-1).
 // The parts of an example are lettered in 01's order; those that are missing are in the table, crates/promises/specs/Examples.antt. 8a to 8f,
 // 9b and 12b are there too, and so is 12c with other mail sends: they are run here again.
 mod cells;

@@ -82,7 +82,7 @@ fn show_last(n: u64) {
 11a INTEDGE = 0
 11a INTIRR
 11b INTEDGE = 8
-11b INTIRR
+11b INTIRR, by Q-1
 12b Set of 1 and Clear of 1
 12b Set of 1 and Clear of 1
 12b Set, then Clear
