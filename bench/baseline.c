@@ -26,16 +26,26 @@ struct bridge {
     uint8_t routes[64];
 };
 
+// The node's 32 sources; 0 and 1 are driven by the bridge's lines, the others by their levels.
+struct node {
+    uint32_t enable;
+    uint32_t edge;
+    uint32_t latch;
+    uint32_t level;
+    uint8_t routes[32];
+};
+
 struct device {
     struct core core[2];
     struct bridge bridge;
     bool gate;
+    struct node node;
     bool second_open;
 };
 
 // Steps and answers.
 
-enum kind { BUS_READ, BUS_WRITE, PRIVATE_READ, PRIVATE_WRITE, BRIDGE_READ, BRIDGE_WRITE, INPUT, WINDOW_SWITCH, RESET };
+enum kind { BUS_READ, BUS_WRITE, PRIVATE_READ, PRIVATE_WRITE, BRIDGE_READ, BRIDGE_WRITE, INPUT, WINDOW_SWITCH, RESET, NODE_INPUT };
 
 enum refusal { ACCEPTED, NO_CORE, NO_REGISTER, CLOSED, BAD_WIDTH, NO_RIGHT, BAD_VALUE, NO_SOURCE, BAD_DISTRIBUTION };
 
@@ -52,16 +62,19 @@ struct answer {
     enum refusal refusal;
     bool ipi[2];
     bool bridge[2];
+    uint8_t pins; // core c and pin p as bit 4 * c + p
 };
 
 // Registers.
 
 #define FIRST_WINDOW 0x1fe00000
 #define SECOND_WINDOW 0x3ff00000
-#define WINDOW_SIZE 0x1200
+#define WINDOW_SIZE 0x1500
 
 enum { GATE = 0x0420, GATE_HIGH = 0x0424, STATUS = 0x1000, ENABLE = 0x1004, SET = 0x1008, CLEAR = 0x100c,
-       MAIL = 0x1020, MAIL_END = 0x1040, IPI_SEND = 0x1040, MAIL_SEND = 0x1048 };
+       MAIL = 0x1020, MAIL_END = 0x1040, IPI_SEND = 0x1040, MAIL_SEND = 0x1048, CORES_END = 0x1200,
+       ENTRY = 0x1400, ENTRY_END = 0x1420, INTISR = 0x1420, INTEN = 0x1424, INTENSET = 0x1428, INTENCLR = 0x142c, INTEDGE_NODE = 0x1434,
+       CORE0_INTISR = 0x1440, CORE1_INTISR = 0x1448, PER_CORE_INTISR = 0x1010 };
 
 enum bridge_register { INT_MASK, MSI_EN, INTEDGE, SOFT_INT, AUTO_CTRL0, AUTO_CTRL1, INTCLR, INTISR_CHIP0, INTISR_CHIP1, INTIRR,
                        ROUTE_ENTRY };
@@ -69,10 +82,12 @@ enum bridge_register { INT_MASK, MSI_EN, INTEDGE, SOFT_INT, AUTO_CTRL0, AUTO_CTR
 static void device_reset(struct device *d)
 {
     uint64_t level = d->bridge.level;
+    uint32_t node_level = d->node.level;
 
     memset(d, 0, sizeof *d);
     d->bridge.mask = UINT64_MAX;
     d->bridge.level = level;
+    d->node.level = node_level;
     d->second_open = true;
 }
 
@@ -201,6 +216,167 @@ static enum refusal mail_send(struct device *d, uint64_t width, uint64_t value)
     return ACCEPTED;
 }
 
+// The bridge's sources.
+
+static uint64_t bridge_requests(const struct bridge *b)
+{
+    return (b->edge & b->latch) | (~b->edge & (b->level | b->soft));
+}
+
+static uint64_t bridge_pending(const struct bridge *b)
+{
+    return bridge_requests(b) & ~b->mask & ~b->msi;
+}
+
+static uint64_t bridge_in_service(const struct bridge *b, unsigned k)
+{
+    uint64_t word = 0;
+
+    for (uint64_t p = bridge_pending(b); p != 0; p &= p - 1)
+        if (b->routes[__builtin_ctzll(p)] >> k & 1)
+            word |= p & -p;
+    return word;
+}
+
+// The outputs that some pending source is routed to, a bit for each.
+static unsigned bridge_outputs(const struct bridge *b)
+{
+    unsigned outputs = 0;
+
+    for (uint64_t p = bridge_pending(b); p != 0 && outputs != 3; p &= p - 1)
+        outputs |= b->routes[__builtin_ctzll(p)];
+    return outputs;
+}
+
+// The node.
+
+// The bridge's lines at the node, behind the gate.
+static unsigned device_lines(const struct device *d)
+{
+    return d->gate ? bridge_outputs(&d->bridge) : 0;
+}
+
+static uint32_t node_drive(const struct node *n, unsigned lines)
+{
+    return (n->level & ~3u) | lines;
+}
+
+static uint32_t node_requests(const struct node *n, unsigned lines)
+{
+    return (n->edge & n->latch) | (~n->edge & node_drive(n, lines));
+}
+
+static uint32_t node_status(const struct node *n, unsigned lines, unsigned core)
+{
+    uint32_t word = 0;
+
+    for (uint32_t p = node_requests(n, lines) & n->enable; p != 0; p &= p - 1)
+        if (n->routes[__builtin_ctz(p)] >> core & 1)
+            word |= p & -p;
+    return word;
+}
+
+static unsigned node_pins(const struct node *n, unsigned lines)
+{
+    unsigned pins = 0;
+
+    for (uint32_t p = node_requests(n, lines) & n->enable; p != 0; p &= p - 1) {
+        unsigned route = n->routes[__builtin_ctz(p)];
+
+        if (route & 1)
+            pins |= route >> 4;
+        if (route & 2)
+            pins |= route & 0xf0;
+    }
+    return pins;
+}
+
+static bool is_entry(uint64_t offset)
+{
+    return ENTRY <= offset && offset < ENTRY_END;
+}
+
+static bool is_node_register(uint64_t offset)
+{
+    return is_entry(offset) || offset == INTISR || offset == INTEN || offset == INTENSET || offset == INTENCLR
+        || offset == INTEDGE_NODE || offset == CORE0_INTISR || offset == CORE1_INTISR;
+}
+
+static enum refusal node_read(const struct device *d, uint64_t offset, uint64_t width, uint64_t *value)
+{
+    const struct node *n = &d->node;
+
+    if (!is_node_register(offset))
+        return NO_REGISTER;
+    if (width != (is_entry(offset) ? 1 : 4))
+        return BAD_WIDTH;
+    switch (offset) {
+    case INTISR:
+        *value = node_requests(n, device_lines(d));
+        break;
+    case INTEN:
+    case INTENSET:
+    case INTENCLR:
+        *value = n->enable;
+        break;
+    case INTEDGE_NODE:
+        *value = n->edge;
+        break;
+    case CORE0_INTISR:
+        *value = node_status(n, device_lines(d), 0);
+        break;
+    case CORE1_INTISR:
+        *value = node_status(n, device_lines(d), 1);
+        break;
+    default:
+        *value = n->routes[offset - ENTRY];
+        break;
+    }
+    return ACCEPTED;
+}
+
+static enum refusal node_write(struct node *n, uint64_t offset, uint64_t width, uint64_t value)
+{
+    if (!is_node_register(offset))
+        return NO_REGISTER;
+    if (width != (is_entry(offset) ? 1 : 4))
+        return BAD_WIDTH;
+    if (offset == INTISR || offset == INTEN || offset == CORE0_INTISR || offset == CORE1_INTISR)
+        return NO_RIGHT;
+    if (value > (is_entry(offset) ? UINT8_MAX : UINT32_MAX))
+        return BAD_VALUE;
+    switch (offset) {
+    case INTENSET:
+        n->enable |= value;
+        break;
+    case INTENCLR: // the latch goes with the enable
+        n->enable &= ~value;
+        n->latch &= ~value;
+        break;
+    case INTEDGE_NODE: // a source taken from edge to level mode loses its latch
+        n->latch &= ~n->edge | value;
+        n->edge = value;
+        break;
+    default: // bits 3..2 name cores that are not there
+        n->routes[offset - ENTRY] = value & 0xf3;
+        break;
+    }
+    return ACCEPTED;
+}
+
+static enum refusal node_input(struct node *n, uint64_t source, bool level)
+{
+    uint32_t bit;
+
+    if (source < 2 || source > 31)
+        return NO_SOURCE;
+    bit = 1u << source;
+    n->level = level ? n->level | bit : n->level & ~bit;
+    return ACCEPTED;
+}
+
+// The private windows.
+
 static enum refusal private_read(const struct device *d, const struct step *s, uint64_t *value)
 {
     if (s->unit > 1)
@@ -209,6 +385,10 @@ static enum refusal private_read(const struct device *d, const struct step *s, u
         return s->width != 4 ? BAD_WIDTH : NO_RIGHT;
     if (s->place == MAIL_SEND)
         return s->width != 8 ? BAD_WIDTH : NO_RIGHT;
+    if (s->place == PER_CORE_INTISR)
+        return node_read(d, s->unit == 0 ? CORE0_INTISR : CORE1_INTISR, s->width, value);
+    if (s->place >= ENTRY)
+        return node_read(d, s->place, s->width, value);
     return core_read(&d->core[s->unit], s->place, s->width, value);
 }
 
@@ -220,6 +400,10 @@ static enum refusal private_write(struct device *d, const struct step *s)
         return ipi_send(d, s->width, s->value);
     if (s->place == MAIL_SEND)
         return mail_send(d, s->width, s->value);
+    if (s->place == PER_CORE_INTISR)
+        return node_write(&d->node, CORE0_INTISR, s->width, s->value);
+    if (s->place >= ENTRY)
+        return node_write(&d->node, s->place, s->width, s->value);
     return core_write(&d->core[s->unit], s->place, s->width, s->value);
 }
 
@@ -256,6 +440,12 @@ static uint64_t bus_offset(uint64_t address, bool *second)
     return address - (*second ? SECOND_WINDOW : FIRST_WINDOW);
 }
 
+// A register that both windows have.
+static bool is_bus_register(uint64_t offset)
+{
+    return offset < CORES_END ? is_message_register(offset & ~0x100ull) : is_node_register(offset);
+}
+
 static enum refusal bus_read(const struct device *d, const struct step *s, uint64_t *value)
 {
     bool second;
@@ -266,7 +456,9 @@ static enum refusal bus_read(const struct device *d, const struct step *s, uint6
     if (offset < STATUS || offset >= WINDOW_SIZE)
         return NO_REGISTER;
     if (second && !d->second_open)
-        return is_message_register(offset & ~0x100ull) ? CLOSED : NO_REGISTER;
+        return is_bus_register(offset) ? CLOSED : NO_REGISTER;
+    if (offset >= CORES_END)
+        return node_read(d, offset, s->width, value);
     return core_read(&d->core[offset >> 8 & 1], offset & ~0x100ull, s->width, value);
 }
 
@@ -280,41 +472,13 @@ static enum refusal bus_write(struct device *d, const struct step *s)
     if (offset < STATUS || offset >= WINDOW_SIZE)
         return NO_REGISTER;
     if (second && !d->second_open)
-        return is_message_register(offset & ~0x100ull) ? CLOSED : NO_REGISTER;
+        return is_bus_register(offset) ? CLOSED : NO_REGISTER;
+    if (offset >= CORES_END)
+        return node_write(&d->node, offset, s->width, s->value);
     return core_write(&d->core[offset >> 8 & 1], offset & ~0x100ull, s->width, s->value);
 }
 
-// The bridge.
-
-static uint64_t bridge_requests(const struct bridge *b)
-{
-    return (b->edge & b->latch) | (~b->edge & (b->level | b->soft));
-}
-
-static uint64_t bridge_pending(const struct bridge *b)
-{
-    return bridge_requests(b) & ~b->mask & ~b->msi;
-}
-
-static uint64_t bridge_in_service(const struct bridge *b, unsigned k)
-{
-    uint64_t word = 0;
-
-    for (uint64_t p = bridge_pending(b); p != 0; p &= p - 1)
-        if (b->routes[__builtin_ctzll(p)] >> k & 1)
-            word |= p & -p;
-    return word;
-}
-
-// The outputs that some pending source is routed to, a bit for each.
-static unsigned bridge_outputs(const struct bridge *b)
-{
-    unsigned outputs = 0;
-
-    for (uint64_t p = bridge_pending(b); p != 0 && outputs != 3; p &= p - 1)
-        outputs |= b->routes[__builtin_ctzll(p)];
-    return outputs;
-}
+// Bridge accesses.
 
 // New input levels and soft bits: in edge mode a source whose drive rises is latched.
 static void bridge_drive(struct bridge *b, uint64_t level, uint64_t soft)
@@ -429,6 +593,8 @@ static enum refusal act(struct device *d, const struct step *s, uint64_t *value)
         return bridge_write(&d->bridge, s->unit, s->place, s->value);
     case INPUT:
         return input_change(&d->bridge, s->place, s->value);
+    case NODE_INPUT:
+        return node_input(&d->node, s->place, s->value);
     case WINDOW_SWITCH:
         d->second_open = s->value;
         return ACCEPTED;
@@ -438,17 +604,23 @@ static enum refusal act(struct device *d, const struct step *s, uint64_t *value)
     }
 }
 
+// In edge mode a source of the node whose drive rises is latched. A write of the modes moves no drive, so those from before the step serve,
+// and they say whether the lines before it are needed.
 static void device_step(struct device *d, const struct step *s, struct answer *a)
 {
-    unsigned outputs;
+    uint32_t edge = d->node.edge;
+    uint32_t before = node_drive(&d->node, edge & 3 ? device_lines(d) : 0);
+    unsigned lines;
 
     a->value = 0;
     a->refusal = act(d, s, &a->value);
-    outputs = d->gate ? bridge_outputs(&d->bridge) : 0;
+    lines = device_lines(d);
+    d->node.latch |= node_drive(&d->node, lines) & ~before & edge;
     a->ipi[0] = (d->core[0].status & d->core[0].enable) != 0;
     a->ipi[1] = (d->core[1].status & d->core[1].enable) != 0;
-    a->bridge[0] = outputs & 1;
-    a->bridge[1] = outputs >> 1;
+    a->bridge[0] = lines & 1;
+    a->bridge[1] = lines >> 1;
+    a->pins = node_pins(&d->node, lines);
 }
 
 // The mixes (mix.h says what a row is), and the checksum of a run.
@@ -476,12 +648,12 @@ static struct step step_of(const uint64_t row[7], uint64_t x)
     return s;
 }
 
-// The checksum with an answer: the value or the refusal number, and the four lines.
+// The checksum with an answer: the value or the refusal number, and the twelve lines.
 static uint64_t answer_folded(uint64_t sum, const struct answer *a)
 {
-    uint64_t lines = a->ipi[0] | a->ipi[1] << 1 | a->bridge[0] << 2 | a->bridge[1] << 3;
+    uint64_t lines = a->ipi[0] | a->ipi[1] << 1 | a->bridge[0] << 2 | a->bridge[1] << 3 | (unsigned)a->pins << 4;
 
-    return (sum << 7 | sum >> 57) ^ a->value ^ (uint64_t)a->refusal << 56 ^ lines << 60;
+    return (sum << 7 | sum >> 57) ^ a->value ^ (uint64_t)a->refusal << 56 ^ lines << 52;
 }
 
 // The checksum with a word of the end state.
@@ -493,6 +665,7 @@ static uint64_t folded(uint64_t sum, uint64_t word)
 static uint64_t state_folded(uint64_t sum, const struct device *d)
 {
     const struct bridge *b = &d->bridge;
+    const struct node *n = &d->node;
 
     for (int c = 0; c < 2; c++) {
         sum = folded(sum, d->core[c].status);
@@ -508,12 +681,18 @@ static uint64_t state_folded(uint64_t sum, const struct device *d)
     sum = folded(sum, b->level);
     for (int i = 0; i < 64; i++)
         sum = folded(sum, b->routes[i]);
+    sum = folded(sum, n->enable);
+    sum = folded(sum, n->edge);
+    sum = folded(sum, n->latch);
+    sum = folded(sum, n->level);
+    for (int i = 0; i < 64; i++)
+        sum = folded(folded(sum, n->routes[i % 32]), i);
     return folded(sum, d->gate | d->second_open << 1);
 }
 
 #ifdef COUNTS
 // What a mix does to the device, for gcc -DCOUNTS: totals over the steps of a run.
-static uint64_t refused[9], lines[4], opened, pending, visited;
+static uint64_t refused[9], lines[12], opened, pending, visited, enabled, requested;
 
 static void count(const struct device *d, const struct answer *a)
 {
@@ -524,6 +703,10 @@ static void count(const struct device *d, const struct answer *a)
         lines[k] += a->ipi[k];
         lines[2 + k] += a->bridge[k];
     }
+    for (int j = 0; j < 8; j++)
+        lines[4 + j] += a->pins >> j & 1;
+    enabled += __builtin_popcount(d->node.enable);
+    requested += __builtin_popcount(node_requests(&d->node, device_lines(d)) & d->node.enable);
     opened += d->gate;
     pending += __builtin_popcountll(bridge_pending(&d->bridge));
     for (uint64_t p = d->gate ? bridge_pending(&d->bridge) : 0; p != 0 && outputs != 3; p &= p - 1, visited++)
@@ -537,9 +720,13 @@ static void counts_print(double n)
         printf(" %d %.4f", i, refused[i] / n);
     printf("\n  lines high %.3f %.3f %.3f %.3f, gate open %.3f, sources pending %.2f, routes looked at %.2f\n", lines[0] / n,
            lines[1] / n, lines[2] / n, lines[3] / n, opened / n, pending / n, visited / n);
+    printf("  pins high");
+    for (int j = 0; j < 8; j++)
+        printf(" %.3f", lines[4 + j] / n);
+    printf(", node sources enabled %.2f, of which request %.2f\n", enabled / n, requested / n);
     memset(refused, 0, sizeof refused);
     memset(lines, 0, sizeof lines);
-    opened = pending = visited = 0;
+    opened = pending = visited = enabled = requested = 0;
 }
 #endif
 
@@ -565,12 +752,12 @@ static uint64_t run(const uint64_t rows[64][7], uint64_t n)
 
 int main(int argc, char **argv)
 {
-    static const struct { const char *name; const uint64_t (*rows)[7]; } mixes[3] = {
-        { "messages", MESSAGES }, { "sparse", SPARSE }, { "dense", DENSE },
+    static const struct { const char *name; const uint64_t (*rows)[7]; } mixes[4] = {
+        { "messages", MESSAGES }, { "sparse", SPARSE }, { "dense", DENSE }, { "tree", TREE },
     };
     uint64_t n = argc > 1 ? strtoull(argv[1], NULL, 10) : 0;
 
-    for (int i = 0; i < 3; i++) {
+    for (int i = 0; i < 4; i++) {
         if (argc > 2 && strcmp(argv[2], mixes[i].name) != 0)
             continue;
         printf("%s %llu checksum 0x%016llx\n", mixes[i].name, (unsigned long long)n, (unsigned long long)run(mixes[i].rows, n));

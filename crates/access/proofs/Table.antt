@@ -2,11 +2,12 @@
 use Prim.Native.Nat.{ℕ, _+_, _≤_, _<_}
 use mathlib.Core.Path.{_≡_, refl, sym, ap}
 use mathlib.Core.Logic.{_⊎_, inl, inr, ⊎-elim}
-use mathlib.Core.Bool.{Bool, true, false, cond, _&&_}
+use mathlib.Core.Bool.{Bool, true, false, cond, not, _&&_}
 use mathlib.Core.List.{List, [], _∷_, _++_}
 use native.Mathlib.Omega.{arith}
 use lib.Dec.{T, eqb, leb, ltb, leb→le, ltb→lt}
 use borrow.Author.Tests.{eq-eqb, ne-eqb, eqb-true, eqb-false}
+use borrow.Table.Steps.{cases}
 use mir.Facts.{and-yes}
 use Rattle.bits.proofs.Cond.{cond-ap}
 use Rattle.access.specs.Table.{Row, lookup, based}
@@ -32,7 +33,7 @@ module _ {A : Type 0} where
       let p = and-yes (leb lo (r .offset) && ltb (r .offset) hi) (inside lo hi rs) t
       in rw (other lo hi o h (r .offset) (p .0)) (lookup-outside lo hi o h none rs (p .1))
 
-  append-first : (none : A) (rs qs : List (Row A)) (o : ℕ) → lookup none qs o ≡ none → lookup none (rs ++ qs) o ≡ lookup none rs o
+  pub append-first : (none : A) (rs qs : List (Row A)) (o : ℕ) → lookup none qs o ≡ none → lookup none (rs ++ qs) o ≡ lookup none rs o
   append-first none [] qs o e = e
   append-first none (r ∷ rs) qs o e = ap (cond (eqb o (r .offset)) (r .entry)) (append-first none rs qs o e)
 
@@ -63,3 +64,20 @@ pub lookup-based : {A B : Type 0} (none : A) (base : ℕ) (f : A → B) (rs : Li
 lookup-based none base f [] o = refl
 lookup-based none base f (r ∷ rs) o =
     rw (same-sum base o (r .offset), lookup-based none base f rs o) (sym (cond-ap f (eqb o (r .offset)) (r .entry) (lookup none rs o)))
+
+false-of : (b : Bool) → T (not b) → b ≡ false
+false-of false t = refl
+false-of true t = absurd t
+
+-- two tables one after the other, where no row of the first says that nothing is there: the second has what the first has not
+module _ {A : Type 0} (none : A) (missing : A → Bool) (m : missing none ≡ true) where
+  abbrev pub filled : List (Row A) → Bool
+  filled [] = true
+  filled (r ∷ rs) = not (missing (r .entry)) && filled rs
+
+  pub lookup-or : (rs qs : List (Row A)) → T (filled rs) → (o : ℕ)
+      → lookup none (rs ++ qs) o ≡ cond (missing (lookup none rs o)) (lookup none qs o) (lookup none rs o)
+  lookup-or [] qs t o = rw m
+  lookup-or (r ∷ rs) qs t o =
+      let p = and-yes (not (missing (r .entry))) (filled rs) t
+      in cases (eqb o (r .offset)) (λ e. rw (e, false-of (missing (r .entry)) (p .0))) (λ e. rw e (lookup-or rs qs (p .1) o))

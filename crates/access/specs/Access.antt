@@ -9,7 +9,7 @@ use Rattle.access.specs.declared.Access.{Access}
 use Rattle.access.specs.declared.Rights.{Rights}
 use Rattle.access.specs.declared.Rights.the-variants.{Read, Write, Both}
 use Rattle.access.specs.declared.Widths.{Widths}
-use Rattle.access.specs.declared.Widths.the-variants.{Four, Eight, FourOrEight}
+use Rattle.access.specs.declared.Widths.the-variants.{One, Four, Eight, FourOrEight}
 use Rattle.access.specs.declared.Refusal.the-variants.{Width, Right, Value}
 use Rattle.access.specs.Refusal.{Check, _when_}
 
@@ -21,13 +21,14 @@ permitted Both write = true
 
 -- a width in bytes is one of those listed
 unfoldable pub listed : Widths → ℕ → Bool
+listed One width = eqb width 1
 listed Four width = eqb width 4
 listed Eight width = eqb width 8
 listed FourOrEight width = eqb width 4 || eqb width 8
 
--- four bytes hold 32 bits, eight hold 64
+-- one byte holds 8 bits, four hold 32, eight hold 64
 unfoldable pub fitting : ℕ → ℕ → Bool
-fitting width value = ltb value (cond (eqb width 4) (2 ^ 32) (2 ^ 64))
+fitting width value = ltb value (cond (eqb width 1) (2 ^ 8) (cond (eqb width 4) (2 ^ 32) (2 ^ 64)))
 
 -- 4, 5, 6
 unfoldable pub accessRefusals : Access → ℕ → Bool → ℕ → List Check

@@ -15,7 +15,7 @@ refusalNumber Window = 3  -- the address lies in the second window and that is c
 refusalNumber Width = 4  -- the width isn't one listed for that register
 refusalNumber Right = 5  -- read of a write-only register, or write of a read-only one
 refusalNumber Value = 6  -- a written value doesn't fit the width, or a route value is above 255
-refusalNumber Source = 7  -- source number above 63
+refusalNumber Source = 7  -- source number above 63; of a node input change, not one of 2 to 31 (Q-2)
 refusalNumber Distribution = 8  -- a nonzero word written to AUTO_CTRL0 or AUTO_CTRL1
 
 -- a refusal, and the test that says whether it applies

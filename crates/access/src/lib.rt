@@ -27,6 +27,7 @@ pub enum Rights {
 }
 
 pub enum Widths {
+    One,
     Four,
     Eight,
     FourOrEight,
@@ -68,6 +69,7 @@ fn lists(widths: Widths, width: u64) -> bool
     ensures { λ r. ⌜ r ≡ listed widths width ⌝ }
 {
     match widths {
+        Widths::One => width == 1,
         Widths::Four => width == 4,
         Widths::Eight => width == 8,
         Widths::FourOrEight => width == 4 || width == 8,
@@ -78,10 +80,10 @@ fn lists(widths: Widths, width: u64) -> bool
 fn fits(width: u64, value: u64) -> bool
     ensures { λ r. ⌜ r ≡ fitting width value ⌝ }
 {
-    if width == 4 {
-        value < 0x1_0000_0000
-    } else {
-        true
+    match width {
+        1 => value < 0x100,
+        4 => value < 0x1_0000_0000,
+        _ => true,
     }
 }
 

@@ -1,10 +1,10 @@
 -- Which steps are refused (01, "Refusal numbers": "The first that applies is given"), for each kind of step a list in 01's order.
---   busRefusals, privateRefusals, bridgeRefusals, inputRefusals   the lists
---   busAdmission, privateAdmission   the refusal of an access, or the place that it reaches
+--   busRefusals, privateRefusals, bridgeRefusals, inputRefusals, nodeInputRefusals   the lists
+--   refusalsIn, admissionOf   of an access in any window: the list, and the refusal or the place that is reached
 use Prim.Native.Nat.{ℕ}
 use mathlib.Core.Bool.{Bool, true, false, not, _&&_}
 use mathlib.Core.List.{List, [], _∷_, _++_}
-use lib.Dec.{ltb}
+use lib.Dec.{leb, ltb}
 use Rattle.access.specs.declared.Access.{Access}
 use Rattle.access.specs.declared.Rights.the-variants.{Both}
 use Rattle.access.specs.declared.Widths.the-variants.{Four}
@@ -16,44 +16,41 @@ use Rattle.access.specs.Access.{accessRefusals, permitted}
 use Rattle.ipi.specs.Effect.{targetOf}
 use Rattle.bridge.specs.declared.Register as bridge
 use Rattle.bridge.specs.Registers.{distributed, rowOf, sized}
+use Rattle.windows.specs.declared.Window as windows
+use Rattle.windows.specs.declared.Window.the-variants.{First, Second, Private}
+use Rattle.windows.specs.declared.Address.{Address}
 use Rattle.windows.specs.declared.Place.{Place}
 use Rattle.windows.specs.declared.Place.the-variants as place
 use Rattle.windows.specs.declared.Located.{Located}
 use Rattle.windows.specs.declared.Located.the-variants.{Nowhere, At}
+use Rattle.windows.specs.Table.{locatedAt, nowhere}
 use Rattle.admission.specs.declared.Admission.{Admission}
 use Rattle.admission.specs.declared.Admission.the-variants as admission
 
--- ---- what was found at an address or an offset: where that is nothing, 2 is given, and the tests behind it are not looked at
-
-abbrev pub nowhere : Located → Bool
-nowhere Nowhere = true
-nowhere (At l) = false
-
-abbrev pub inSecond : Located → Bool
-inSecond Nowhere = false
-inSecond (At l) = l .second
+-- ---- what an address names: where that is nothing, 2 is given, and the tests behind it are not looked at
 
 abbrev pub accessOf : Located → Access
 accessOf Nowhere = record { rights = Both; widths = Four }
-accessOf (At l) = l .access
+accessOf (At place access) = access
 
--- the core that a write to a place reaches
+-- the core that a write to a place reaches; none but a message register has one
 unfoldable pub targetAt : Place → ℕ → ℕ
-targetAt (place.Message core register) value = targetOf register core value
+targetAt (place.Message register core) value = targetOf register core value
+targetAt (place.Node register) value = 0
 targetAt place.Gate value = 0
 targetAt place.GateHigh value = 0
 
 abbrev pub targetIn : Located → ℕ → ℕ
 targetIn Nowhere value = 0
-targetIn (At l) value = targetAt (l .place) value
+targetIn (At place access) value = targetAt place value
 
 -- ---- the lists
 
 -- Bus: 2, 3, 4, 5, 6
-unfoldable pub busRefusals : Located → Bool → ℕ → Bool → ℕ → List Check
-busRefusals l opened width write value =
+unfoldable pub busRefusals : Bool → Located → Bool → ℕ → Bool → ℕ → List Check
+busRefusals second l opened width write value =
     Register when nowhere l  -- 2
-    ∷ Window when (inSecond l && not opened)  -- 3
+    ∷ Window when (second && not opened)  -- 3
     ∷ accessRefusals (accessOf l) width write value  -- 4, 5, 6
 
 -- Private: 1 for the issuing core, then 2, 4, 5, 6, then 1 for the target
@@ -63,6 +60,11 @@ privateRefusals core l width write value =
     ∷ Register when nowhere l  -- 2
     ∷ accessRefusals (accessOf l) width write value  -- 4, 5, 6
     ++ (Core when ltb 1 (targetIn l value) ∷ [])  -- 1
+
+unfoldable pub refusalsIn : windows.Window → Located → Bool → ℕ → Bool → ℕ → List Check
+refusalsIn First l opened width write value = busRefusals false l opened width write value
+refusalsIn Second l opened width write value = busRefusals true l opened width write value
+refusalsIn (Private core) l opened width write value = privateRefusals core l width write value
 
 -- Bridge: 7 (ROUTE_ENTRY only), 5, 6, 8. ROUTE_ENTRY has both rights, so that 5 cannot arise there.
 unfoldable pub bridgeRefusals : bridge.Register → Bool → ℕ → List Check
@@ -77,15 +79,18 @@ bridgeRefusals register write value =
 unfoldable pub inputRefusals : ℕ → List Check
 inputRefusals source = Source when ltb 63 source ∷ []
 
+-- Node input change: 7 outside sources 2 to 31 (Q-2)
+unfoldable pub nodeInputRefusals : ℕ → List Check
+nodeInputRefusals source = Source when not (leb 2 source && ltb source 32) ∷ []
+
 -- ---- the place that an access reaches
 
 abbrev pub admitted : Verdict → Located → Admission
 admitted (verdict.Refused reason) l = admission.Refused reason
-admitted verdict.Accepted (At l) = admission.At (l .place)
+admitted verdict.Accepted (At place access) = admission.At place
 admitted verdict.Accepted Nowhere = admission.Refused Register  -- 2 is given there, so that this does not arise
 
-unfoldable pub busAdmission : Located → Bool → ℕ → Bool → ℕ → Admission
-busAdmission l opened width write value = admitted (firstOf (busRefusals l opened width write value)) l
-
-unfoldable pub privateAdmission : ℕ → Located → ℕ → Bool → ℕ → Admission
-privateAdmission core l width write value = admitted (firstOf (privateRefusals core l width write value)) l
+unfoldable pub admissionOf : Address → Bool → ℕ → Bool → ℕ → Admission
+admissionOf a opened width write value =
+    let l = locatedAt a in
+    admitted (firstOf (refusalsIn (a .window) l opened width write value)) l

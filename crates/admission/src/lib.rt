@@ -1,14 +1,17 @@
 // Which steps are refused: of each kind the first refusal that applies, or the place that is reached.
 ghost use mathlib.Core.Path.{_≡_};
 ghost use mathlib.Core.Bool.{not, _&&_};
-ghost use Prim.Native.Nat.{_≤_};
 ghost use Rattle.access.specs.Refusal.{firstOf};
-ghost use Rattle.admission.specs.Refusals.{bridgeRefusals, busAdmission, inputRefusals, privateAdmission, targetAt};
+ghost use Rattle.admission.specs.Refusals.{admissionOf, bridgeRefusals, inputRefusals, nodeInputRefusals, targetAt};
+ghost use Rattle.admission.specs.Private.{admittedAt, issuerIn, sentPast};
+ghost use Rattle.windows.specs.Table.{inSecond};
+use access::Access;
 use access::Refusal;
 use access::Verdict;
+use windows::Address;
 use windows::Located;
-use windows::Location;
 use windows::Place;
+use windows::Window;
 
 // Why a bus or private access is refused, or the place that it reaches.
 pub enum Admission {
@@ -16,75 +19,24 @@ pub enum Admission {
     At(Place),
 }
 
-// Bus: the first refusal that applies, of 2, 3, 4, 5 and 6.
-pub fn bus_admission(
-    located: Located,
-    opened: bool,
-    width: u64,
-    write: bool,
-    value: u64,
-) -> Admission
-    ensures { λ r. ⌜ r ≡ busAdmission located opened width write value ⌝ }
+// The core that issues an access in a window, as far as it can be refused: 0 for the bus.
+fn issuer(window: Window) -> u64
+    ensures { λ r. ⌜ r ≡ issuerIn window ⌝ }
 {
-    match located {
-        Located::Nowhere => Admission::Refused(Refusal::Register),
-        Located::At(location) => bus_located(location, opened, width, write, value),
+    match window {
+        Window::First => 0,
+        Window::Second => 0,
+        Window::Private(core) => core,
     }
 }
 
-fn bus_located(location: Location, opened: bool, width: u64, write: bool, value: u64) -> Admission
-    ensures { λ r. ⌜ r ≡ busAdmission (Located.At location) opened width write value ⌝ }
+fn closed(window: Window, opened: bool) -> bool
+    ensures { λ r. ⌜ r ≡ (inSecond window && not opened) ⌝ }
 {
-    let place = location.place;
-    let access = location.access;
-    if closed(location.second, opened) {
-        return Admission::Refused(Refusal::Window);
-    }
-    match access::judge(access, width, write, value) {
-        Verdict::Refused(refusal) => Admission::Refused(refusal),
-        Verdict::Accepted => Admission::At(place),
-    }
-}
-
-fn closed(second: bool, opened: bool) -> bool
-    ensures { λ r. ⌜ r ≡ (second && not opened) ⌝ }
-{
-    if second { !opened } else { false }
-}
-
-// Private: 1 for the issuing core, then 2, 4, 5, 6, then 1 for the target.
-pub fn private_admission(
-    core: u64,
-    located: Located,
-    width: u64,
-    write: bool,
-    value: u64,
-) -> Admission
-    ensures { λ r. ⌜ r ≡ privateAdmission core located width write value ⌝ }
-{
-    if 1 < core {
-        return Admission::Refused(Refusal::Core);
-    }
-    match located {
-        Located::Nowhere => Admission::Refused(Refusal::Register),
-        Located::At(location) => private_located(core, location, width, write, value),
-    }
-}
-
-fn private_located(core: u64, location: Location, width: u64, write: bool, value: u64) -> Admission
-    requires { ⌜ core ≤ 1 ⌝ }
-    ensures { λ r. ⌜ r ≡ privateAdmission core (Located.At location) width write value ⌝ }
-{
-    let place = location.place;
-    let access = location.access;
-    match access::judge(access, width, write, value) {
-        Verdict::Refused(refusal) => Admission::Refused(refusal),
-        Verdict::Accepted => {
-            if 1 < target(place, value) {
-                return Admission::Refused(Refusal::Core);
-            }
-            Admission::At(place)
-        }
+    if windows::is_second(window) {
+        !opened
+    } else {
+        false
     }
 }
 
@@ -93,9 +45,64 @@ fn target(place: Place, value: u64) -> u64
     ensures { λ r. ⌜ r ≡ targetAt place value ⌝ }
 {
     match place {
-        Place::Message { core, register } => ipi::target(register, core, value),
+        Place::Message { register, core } => ipi::target(register, core, value),
+        Place::Node(_) => 0,
         Place::Gate => 0,
         Place::GateHigh => 0,
+    }
+}
+
+// A send in a private window to a core above 1; no window of the bus has a send.
+fn sent_past(window: Window, place: Place, value: u64) -> bool
+    ensures { λ r. ⌜ r ≡ sentPast window place value ⌝ }
+{
+    match window {
+        Window::First => false,
+        Window::Second => false,
+        Window::Private(_) => 1 < target(place, value),
+    }
+}
+
+// An access that names a place: of the refusals 3, 4, 5, 6 and 1 the first that applies, or the place.
+fn admitted(
+    window: Window,
+    place: Place,
+    access: Access,
+    opened: bool,
+    width: u64,
+    write: bool,
+    value: u64,
+) -> Admission
+    ensures { λ r. ⌜ r ≡ admittedAt window place access opened width write value ⌝ }
+{
+    if closed(window, opened) {
+        return Admission::Refused(Refusal::Window);
+    }
+    match access::judge(access, width, write, value) {
+        Verdict::Refused(refusal) => Admission::Refused(refusal),
+        Verdict::Accepted => {
+            if sent_past(window, place, value) {
+                return Admission::Refused(Refusal::Core);
+            }
+            Admission::At(place)
+        }
+    }
+}
+
+// Bus and private accesses. Bus: the first refusal that applies, of 2, 3, 4, 5 and 6. Private: 1 for the issuing core, then 2, 4, 5, 6, then
+// 1 for the target.
+pub fn admit(address: Address, opened: bool, width: u64, write: bool, value: u64) -> Admission
+    ensures { λ r. ⌜ r ≡ admissionOf address opened width write value ⌝ }
+{
+    let window = address.window;
+    if 1 < issuer(window) {
+        return Admission::Refused(Refusal::Core);
+    }
+    match windows::locate(address) {
+        Located::Nowhere => Admission::Refused(Refusal::Register),
+        Located::At { place, access } => {
+            admitted(window, place, access, opened, width, write, value)
+        }
     }
 }
 
@@ -129,4 +136,14 @@ pub fn input_verdict(source: u64) -> Verdict
         return Verdict::Refused(Refusal::Source);
     }
     Verdict::Accepted
+}
+
+// Node input change: 7.
+pub fn node_input_verdict(source: u64) -> Verdict
+    ensures { λ r. ⌜ r ≡ firstOf (nodeInputRefusals source) ⌝ }
+{
+    match source {
+        2..=31 => Verdict::Accepted,
+        _ => Verdict::Refused(Refusal::Source),
+    }
 }

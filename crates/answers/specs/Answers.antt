@@ -1,10 +1,13 @@
--- What a step answers (01, "Kinds of step" and "Refusal numbers"): 01's number and read data of each outcome, and the lines as one word.
---   outcomeNumber   the refusal number     outcomeData   the read data     linesWord   the four lines, the first as bit 0
-use Prim.Native.Nat.{ℕ}
-use mathlib.Core.Bool.{Bool, false}
+-- What a step answers (01, "Kinds of step" and "Refusal numbers"; request Q-2): 01's number and read data of each outcome, and the lines as
+-- one word.
+--   outcomeNumber   the refusal number     outcomeData   the read data
+--   firstFour       the four lines of 01   linesWord     the twelve lines, the first as bit 0
+use Prim.Native.Nat.{ℕ, _-_}
+use mathlib.Core.Bool.{Bool, false, cond}
 use mathlib.Core.List.{List, [], _∷_}
+use lib.Dec.{ltb}
 use lib.ListN.{getD}
-use Rattle.bits.specs.Bits.{word}
+use Rattle.bits.specs.Bits.{bit, word}
 use Rattle.answers.specs.declared.Answer.{Answer}
 use Rattle.access.specs.Refusal.{refusalNumber}
 use Rattle.answers.specs.declared.Outcome.{Outcome}
@@ -21,9 +24,9 @@ outcomeData (Value v) = v
 outcomeData (Refused reason) = 0
 
 -- IPI of core 0 and 1, bridge 0 and 1
-abbrev pub flagsOf : Answer → List Bool
-flagsOf a = a .ipi0 ∷ a .ipi1 ∷ a .bridge0 ∷ a .bridge1 ∷ []
+abbrev pub firstFour : Answer → List Bool
+firstFour a = a .ipi0 ∷ a .ipi1 ∷ a .bridge0 ∷ a .bridge1 ∷ []
 
--- bit i is line i
+-- bit i is line i: the first four, then the pins, core 0's first
 unfoldable pub linesWord : Answer → ℕ
-linesWord a = word 4 (λ i. getD (flagsOf a) i false)
+linesWord a = word 12 (λ i. cond (ltb i 4) (getD (firstFour a) i false) (bit (a .pins) (i - 4)))

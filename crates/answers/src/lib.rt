@@ -1,4 +1,4 @@
-// What a step answers: read data or a refusal, beside the four lines.
+// What a step answers: read data or a refusal, beside the lines.
 ghost use mathlib.Core.Path.{_≡_};
 ghost use Rattle.answers.specs.Answers.{linesWord, outcomeData, outcomeNumber};
 use access::Refusal;
@@ -8,13 +8,15 @@ pub enum Outcome {
     Refused(Refusal),
 }
 
-// The outcome beside the four lines after the step.
+// The outcome beside the lines after the step: IPI of core 0 and 1, bridge 0 and 1, and the line of core c and pin p as bit 4 * c + p of
+// the pins.
 pub struct Answer {
     pub outcome: Outcome,
     pub ipi0: bool,
     pub ipi1: bool,
     pub bridge0: bool,
     pub bridge1: bool,
+    pub pins: u8,
 }
 
 impl Outcome {
@@ -40,7 +42,7 @@ impl Outcome {
 }
 
 impl Answer {
-    // The four lines as one word: bit i is line i, in the order of the answer.
+    // The twelve lines as one word: bit i is line i, in the order of the answer.
     pub fn lines(self) -> u64
         ensures { λ r. ⌜ r ≡ linesWord self ⌝ }
     {
@@ -48,5 +50,6 @@ impl Answer {
             | (self.ipi1 as u64) << 1
             | (self.bridge0 as u64) << 2
             | (self.bridge1 as u64) << 3
+            | (self.pins as u64) << 4
     }
 }

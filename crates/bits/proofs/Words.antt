@@ -5,11 +5,11 @@ use native.Mathlib.Decide.{decLt}
 use borrow.Author.Tests.{lt-ltb, le-ltb}
 use mathlib.Core.Bool.{Bool, true, false, _&&_}
 use Prim.Native.Nat.{ℕ, zero, suc, _+_, _-_, _*_, _/_, _%_, _^_, _≤_, _<_}
-use native.Mathlib.Nat.{mod-eq-of-lt, div-eq-of-lt, mul-add-mod-self-right, le-of-suc-le-suc, not-suc-le-zero, lt-of-lt-of-le, eq-or-lt-of-le, pow-suc, mod-one, add-zero, zero-div}
+use native.Mathlib.Nat.{mod-lt, mod-eq-of-lt, div-eq-of-lt, mul-add-mod-self-right, le-of-suc-le-suc, not-suc-le-zero, lt-of-lt-of-le, eq-or-lt-of-le, pow-suc, mod-one, add-zero, zero-div}
 use native.Mathlib.Omega.{arith}
 use native.Mathlib.Numerals.{one-add}
 use lib.Dec.{eqb, ltb}
-use lib.Pow.{pow-mono, field, mod-mod-pow, mod-pow-add, high, shr-shr}
+use lib.Pow.{pow-mono, pow-pos, field, mod-mod-pow, mod-pow-add, high, shr-shr}
 use lib.Arith.{digits-lt}
 use Rattle.bits.specs.Bits.{bit, digit, word}
 
@@ -112,3 +112,7 @@ is-word k h e = sym (word-bit k h) ∙ word-cong k e
 
 pub ext : (k : ℕ) {a b : ℕ} → a < 2 ^ k → b < 2 ^ k → ((i : ℕ) → i < k → bit a i ≡ bit b i) → a ≡ b
 ext k ha hb e = is-word k ha e ∙ word-bit k hb
+
+-- the low bits of a word are the word of those bits
+pub low-word : (j k : ℕ) (f : ℕ → Bool) → j ≤ k → word k f % 2 ^ j ≡ word j f
+low-word j k f l = is-word j (mod-lt _ (pow-pos j)) (λ i h. bit-mod j (word k f) i h ∙ bit-word k f i (omega arith))

@@ -1,14 +1,15 @@
--- The laws of masked writes, over the width.
+-- The laws of masked writes and of the low bits of words, over the width.
 use mathlib.Core.Path.{_≡_, refl, sym, ap, _∙_}
 use mathlib.Core.Bool.{Bool, true, false, cond}
 use Prim.Native.Nat.{ℕ, _+_, _*_, _≤_, _<_, _^_, _%_}
 use borrow.Author.Tests.{ne-eqb}
-use native.Mathlib.Nat.{mod-lt, one-mul}
+use native.Mathlib.Nat.{one-mul}
 use native.Mathlib.Omega.{arith}
 use lib.Dec.{eqb}
-use lib.Pow.{pow-lt, pow-pos}
+use lib.Pow.{pow-lt}
 use Rattle.bits.specs.Bits.{bit, digit, word, merge, put}
-use Rattle.bits.proofs.Words.{bit-digit, word-cong, bit-word, bit-zero, bit-mod, is-word}
+use Rattle.bits.specs.Latch.{risen, cleared, latched}
+use Rattle.bits.proofs.Words.{bit-digit, word-cong, bit-word, bit-zero, is-word, low-word}
 use Rattle.bits.proofs.Operations.{bit-one}
 
 pub bit-merge : (k o m v i : ℕ) → i < k → bit (merge k o m v) i ≡ cond (bit m i) (bit v i) (bit o i)
@@ -29,7 +30,17 @@ merge-comm k o m n a b e = word-cong k (λ i h. simp bit-word (shared (bit m i) 
 -- the low bits of a masked write are the masked write of those bits
 pub merge-low : (j k o m v : ℕ) → j ≤ k → merge k o m v % 2 ^ j ≡ merge j o m v
 unfolding merge
-merge-low j k o m v l = is-word j (mod-lt _ (pow-pos j)) (λ i h. bit-mod j (merge k o m v) i h ∙ bit-merge k o m v i (omega arith))
+merge-low j k o m v l = low-word j k _ l
+
+-- so are those of one bit written, and of the latches
+pub put-low : (j k w i : ℕ) (b : Bool) → j ≤ k → put k w i b % 2 ^ j ≡ put j w i b
+unfolding put
+put-low j k w i b l = low-word j k _ l
+
+pub latched-low : (j k old new before after latch : ℕ) → j ≤ k → latched k old new before after latch % 2 ^ j ≡ latched j old new before after latch
+unfolding latched risen cleared
+latched-low j k old new before after latch l =
+    low-word j k _ l ∙ word-cong j (λ i h. rw (bit-word k _ i (omega arith), bit-word j _ i h))
 
 -- a bit past the end is not there
 pub put-past : (k w j : ℕ) (b : Bool) → k ≤ j → w < 2 ^ k → w ≡ put k w j b

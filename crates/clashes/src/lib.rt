@@ -4,7 +4,7 @@ ghost use mathlib.Core.Bool.{cond, xor, _&&_};
 ghost use Prim.Native.Nat.{_≤_};
 ghost use lib.Dec.{eqb, ltb};
 ghost use Rattle.bits.specs.Bits.{bit, word};
-ghost use Rattle.reorder.specs.Cells.{messagePlace, sourcePlace, width};
+ghost use Rattle.reorder.specs.Cells.{messagePlace, nodePlace, sourcePlace, width};
 ghost use Rattle.clashes.specs.Clash.{clashBits, clashIn, clashOf};
 ghost use Rattle.clashes.specs.Private.{spotOf};
 use reorder::Cell;
@@ -63,6 +63,16 @@ fn source_spot(first: u64, cell: bridge::Cell) -> Spot
     }
 }
 
+fn node_spot(first: u64, cell: node::Cell) -> Spot
+    requires { ⌜ first ≤ 10 ⌝ }
+    ensures { λ r. ⌜ r ≡ record { row = nodePlace first cell .row; index = nodePlace first cell .index; width = width (Cell.Node cell) } ⌝ }
+{
+    match cell {
+        node::Cell::Inten => at(first, 0, 32),
+        node::Cell::Entry(i) => at(first + 1, i, bounded(i, 32, 8)),
+    }
+}
+
 fn spot_of(cell: Cell) -> Spot
     ensures { λ r. ⌜ r ≡ spotOf cell ⌝ }
 {
@@ -71,6 +81,7 @@ fn spot_of(cell: Cell) -> Spot
         Cell::Core1(c) => message_spot(3, c),
         Cell::Bridge(c) => source_spot(6, c),
         Cell::Gate => at(9, 0, 1),
+        Cell::Node(c) => node_spot(10, c),
     }
 }
 

@@ -1,5 +1,5 @@
--- The device and its four lines (01, "The cells" and "The four lines").
---   freshOf, resetOf   the fresh state and the reset values     answeredOf   an outcome beside the four lines
+-- The device and its lines (01, "The cells" and "The four lines"; request Q-2).
+--   freshOf, resetOf   the fresh state and the reset values     answeredOf   an outcome beside the lines
 use Prim.Native.Nat.{ℕ}
 use mathlib.Core.Bool.{Bool, true, cond}
 use lib.Dec.{eqb}
@@ -52,9 +52,9 @@ withTree d t = record { core0 = d .core0; core1 = d .core1; tree = t; «second_o
 abbrev pub withOpen : Device → Bool → Device
 withOpen d opened = record { core0 = d .core0; core1 = d .core1; tree = d .tree; «second_open» = opened }
 
--- ---- the four lines
+-- ---- the lines
 
--- the outcome beside the four lines
+-- the outcome beside the four lines, and those to the pins: core c and pin p as bit 4 * c + p
 unfoldable pub answeredOf : Device → Outcome → Stepped
 answeredOf d outcome = record {
   answer = record {
@@ -63,6 +63,7 @@ answeredOf d outcome = record {
     ipi1 = cores.lineOf (d .core1);
     bridge0 = tree.bridgeLine (d .tree) 0;
     bridge1 = tree.bridgeLine (d .tree) 1;
+    pins = tree.pinsOf (d .tree);
   };
   device = d;
 }

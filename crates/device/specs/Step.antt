@@ -1,7 +1,9 @@
--- A step of the device (01, "Kinds of step"): decided, done, answered.
---   outcomeOf   what the step answers         nextOf          the device after it
---   stepOf      both, with the four lines
+-- A step of the device (01, "Kinds of step"): decided, done, settled, answered. What follows from a change is said in one place, `settledOf`
+-- of crates/tree, from the tree before the step to the tree after it.
+--   outcomeOf   what the step answers     nextOf   the device after it
+--   stepOf      both, with the lines
 use Rattle.cores.specs.Core as cores
+use Rattle.tree.specs.declared.Act.the-variants.{Write, Change}
 use Rattle.tree.specs.Tree as tree
 use Rattle.device.specs.declared.Device.{Device}
 use Rattle.steps.specs.declared.Step.{Step}
@@ -30,8 +32,8 @@ nextOf d (Refuse reason) = d
 nextOf d (ReadCore register core width) = d
 nextOf d (ReadTree read) = d
 nextOf d (WriteCore effect core) = withCore d core (cores.appliedOf (coreOf d core) effect)
-nextOf d (WriteTree write) = withTree d (tree.writtenOf (d .tree) write)
-nextOf d (ChangeTree change) = withTree d (tree.changedOf (d .tree) change)
+nextOf d (WriteTree write) = withTree d (tree.actedOf (d .tree) (Write write))
+nextOf d (ChangeTree change) = withTree d (tree.actedOf (d .tree) (Change change))
 nextOf d (Window opened) = withOpen d opened
 nextOf d Reset = resetOf d
 

@@ -1,13 +1,14 @@
 // The device: two cores, the interrupt tree and the switch of the second window; one step at a time, by value.
 ghost use mathlib.Core.Path.{_≡_};
 ghost use Rattle.device.specs.Device.{answeredOf, freshOf, resetOf, startOf, withOpen, withTree};
-ghost use Rattle.device.specs.Private.{withCores};
-ghost use Rattle.device.specs.Step.{nextOf, outcomeOf, stepOf};
+ghost use Rattle.device.specs.Private.{classNext, classOf, withCores};
+ghost use Rattle.device.specs.Step.{outcomeOf, stepOf};
 use answers::Answer;
 use answers::Outcome;
 use cores::Core;
 use steps::Plan;
 use steps::Step;
+use tree::Act;
 use tree::Tree;
 
 pub struct Device {
@@ -20,6 +21,38 @@ pub struct Device {
 pub struct Stepped {
     pub answer: Answer,
     pub device: Device,
+}
+
+// What a plan does to the device, by the part that it reaches. It serves speed: what follows from a change of the tree has one place in
+// the code, and is not looked at in the other cases.
+enum Class {
+    Keep,
+    Cores { effect: ipi::Effect, core: u64 },
+    Tree(Act),
+    Window(bool),
+    Reset,
+}
+
+fn class_of(plan: Plan) -> Class
+    ensures { λ r. ⌜ r ≡ classOf plan ⌝ }
+{
+    match plan {
+        Plan::Refuse(_) => Class::Keep,
+        Plan::ReadCore {
+            register: _,
+            core: _,
+            width: _,
+        } => Class::Keep,
+        Plan::ReadTree(_) => Class::Keep,
+        Plan::WriteCore { effect, core } => Class::Cores {
+            effect: effect,
+            core: core,
+        },
+        Plan::WriteTree(write) => Class::Tree(Act::Write(write)),
+        Plan::ChangeTree(change) => Class::Tree(Act::Change(change)),
+        Plan::Window(open) => Class::Window(open),
+        Plan::Reset => Class::Reset,
+    }
 }
 
 impl Device {
@@ -112,45 +145,37 @@ impl Device {
         }
     }
 
-    fn next(self, plan: Plan) -> Device
-        ensures { λ r. ⌜ r ≡ nextOf self plan ⌝ }
+    fn next(self, class: Class) -> Device
+        ensures { λ r. ⌜ r ≡ classNext self class ⌝ }
     {
         let core0 = self.core0;
         let core1 = self.core1;
-        match plan {
-            Plan::Refuse(_) => self,
-            Plan::ReadCore {
-                register: _,
-                core: _,
-                width: _,
-            } => self,
-            Plan::ReadTree(_) => self,
-            Plan::WriteCore { effect, core } => {
+        match class {
+            Class::Keep => self,
+            Class::Cores { effect, core } => {
                 let new0 = core0.applied(core == 0, effect);
                 let new1 = core1.applied(core != 0, effect);
                 self.with_cores(new0, new1)
             }
-            Plan::WriteTree(write) => {
+            Class::Tree(act) => {
                 let tree = self.tree;
-                self.with_tree(tree.written(write))
+                self.with_tree(tree.acted(act))
             }
-            Plan::ChangeTree(change) => {
-                let tree = self.tree;
-                self.with_tree(tree.changed(change))
-            }
-            Plan::Window(open) => self.with_open(open),
-            Plan::Reset => self.reset(),
+            Class::Window(open) => self.with_open(open),
+            Class::Reset => self.reset(),
         }
     }
 
-    // The outcome beside the four lines.
+    // The outcome beside the lines.
     fn answered(self, outcome: Outcome) -> Stepped
         ensures { λ r. ⌜ r ≡ answeredOf self outcome ⌝ }
     {
         let core0 = self.core0;
         let core1 = self.core1;
         let tree = self.tree;
+        let node = tree.node;
         let lines = tree.lines();
+        let pins = node.pins(lines);
         let ipi0 = core0.line();
         let ipi1 = core1.line();
         Stepped {
@@ -158,8 +183,9 @@ impl Device {
                 outcome: outcome,
                 ipi0: ipi0,
                 ipi1: ipi1,
-                bridge0: lines.chip0,
-                bridge1: lines.chip1,
+                bridge0: bits::test(lines as u64, 0),
+                bridge1: bits::test(lines as u64, 1),
+                pins: pins,
             },
             device: self,
         }
@@ -171,6 +197,6 @@ impl Device {
     {
         let plan = steps::decide(step, self.second_open);
         let outcome = self.outcome(plan);
-        self.next(plan).answered(outcome)
+        self.next(class_of(plan)).answered(outcome)
     }
 }

@@ -4,12 +4,13 @@ use crate::kinds::bus_read;
 use bridge::Register;
 use device::Device;
 use steps::Step;
+use tree::Tree;
 
 // How many reads show all that can be read.
-const READS: u64 = 87;
+const READS: u64 = 124;
 
-// Read k: the 64 routes, the other registers of the bridge by number (INTCLR has no read: both devices refuse it), the gate, and the
-// cells of both cores.
+// Read k: the 64 routes, the other registers of the bridge by number (INTCLR has no read: both devices refuse it), the gate, the
+// cells of both cores, and of the node Intisr, Inten, Intedge, the status of each core and the 32 routes.
 fn read_at(k: u64) -> Step {
     if k < 64 {
         return bridge_read(Register::RouteEntry(k));
@@ -17,7 +18,10 @@ fn read_at(k: u64) -> Step {
     if k < 74 {
         return bridge_read(bridge::numbered(k - 64, 0));
     }
-    bus_read(address_at(k), width_at(k))
+    if k < 92 {
+        return bus_read(address_at(k), width_at(k));
+    }
+    bus_read(0x1fe01400 + (k - 92) % 32, 1)
 }
 
 fn address_at(k: u64) -> u64 {
@@ -34,14 +38,20 @@ fn address_at(k: u64) -> u64 {
         83 => 0x1fe01120,
         84 => 0x1fe01128,
         85 => 0x1fe01130,
-        _ => 0x1fe01138,
+        86 => 0x1fe01138,
+        87 => 0x1fe01420,
+        88 => 0x1fe01424,
+        89 => 0x1fe01434,
+        90 => 0x1fe01440,
+        _ => 0x1fe01448,
     }
 }
 
-// Status and Enable have 4 bytes.
+// Status, Enable and the registers of the node have 4 bytes.
 fn width_at(k: u64) -> u64 {
     match k {
         75..=78 => 4,
+        87..=91 => 4,
         _ => 8,
     }
 }
@@ -62,11 +72,16 @@ pub(crate) fn same_reads(a: Device, b: Device) -> bool {
     true
 }
 
+// The latches and the input levels of the bridge and of the node are the same.
+fn same_hidden(a: Tree, b: Tree) -> bool {
+    let p = a.bridge;
+    let q = b.bridge;
+    let m = a.node;
+    let n = b.node;
+    p.latch == q.latch && p.level == q.level && m.latch == n.latch && m.level == n.level
+}
+
 // Every cell is the same in both: those that no read shows are the latches, the input levels and the window switch.
 pub(crate) fn same_cells(a: Device, b: Device) -> bool {
-    let first = a.tree;
-    let second = b.tree;
-    let p = first.bridge;
-    let q = second.bridge;
-    p.latch == q.latch && p.level == q.level && a.second_open == b.second_open && same_reads(a, b)
+    same_hidden(a.tree, b.tree) && a.second_open == b.second_open && same_reads(a, b)
 }

@@ -24,6 +24,7 @@ fn cell_number(cell: Cell) -> u64 {
         Cell::Core1(_) => OTHER,
         Cell::Bridge(_) => OTHER,
         Cell::Gate => OTHER,
+        Cell::Node(_) => OTHER,
     }
 }
 

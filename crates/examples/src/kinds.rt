@@ -52,6 +52,13 @@ pub(crate) fn input(source: u64, level: bool) -> Step {
     }
 }
 
+pub(crate) fn node_input(source: u64, level: bool) -> Step {
+    Step::NodeInput {
+        source: source,
+        level: level,
+    }
+}
+
 pub(crate) fn window(opened: bool) -> Step {
     Step::Window { open: opened }
 }

@@ -1,5 +1,5 @@
 // Runs the examples of 01 ("Examples on each side") that the proved table leaves, and says of each whether the device does what 01 says, or the request
-// that changed it (11: Q-1).
+// that changed it (11: Q-1). Then come facts of section 8.2, by the readings of Q-2.
 // The parts of an example are lettered in 01's order; those that are missing are in the table, crates/promises/specs/Examples.antt. 8a to 8f,
 // 9b and 12b are there too, and so is 12c with other mail sends: they are run here again.
 mod cells;
@@ -15,6 +15,7 @@ use kinds::bridge_write;
 use kinds::bus_read;
 use kinds::bus_write;
 use kinds::input;
+use kinds::node_input;
 use kinds::private_read;
 use kinds::private_write;
 use kinds::window;
@@ -28,6 +29,18 @@ const GATE: u64 = 0x1_0000_0000_0000;
 
 // Both lines of the bridge.
 const BRIDGE_LINES: u64 = 0b1100;
+
+// Source 10 of the node (UART0): the address of its route, and its bit.
+const ENTRY_10: u64 = 0x1fe0140a;
+
+const SOURCE_10: u64 = 0x400;
+
+const INTISR: u64 = 0x1fe01420;
+
+const INTENCLR: u64 = 0x1fe0142c;
+
+// The line of core 1 and pin 2.
+const CORE_1_INT2: u64 = 0b100_0000_0000;
 
 // Addresses of the second window at which no register starts. A refused step leaves the device as it was, so the next follows at once.
 fn example_5(run: Run) -> Run {
@@ -169,6 +182,43 @@ fn example_13(run: Run) -> Run {
         .shows(Register::AutoCtrl0, 0) // 13b
 }
 
+// A route of the node holds six bits, and 0x42 is INT2 of core 1.
+fn node_route(run: Run) -> Run {
+    run.fresh()
+        .accepts(bus_write(ENTRY_10, 1, 0xff))
+        .reads(bus_read(ENTRY_10, 1), 0xf3)
+        .after(bus_write(ENTRY_10, 1, 0x42))
+        .after(bus_write(0x1fe01428, 4, SOURCE_10))
+        .raises(node_input(10, true), CORE_1_INT2)
+}
+
+// Then Intenclr takes the enable; a level source that is driven still requests.
+fn node_level(run: Run) -> Run {
+    run.accepts(bus_write(INTENCLR, 4, SOURCE_10))
+        .reads(bus_read(0x1fe01424, 4), 0)
+        .reads(bus_read(INTISR, 4), SOURCE_10)
+}
+
+// An edge source requests until Intenclr, enabled or not.
+fn node_edge(run: Run) -> Run {
+    run.fresh()
+        .after(bus_write(0x1fe01434, 4, SOURCE_10))
+        .after(node_input(10, true))
+        .after(node_input(10, false))
+        .reads(bus_read(INTISR, 4), SOURCE_10)
+        .accepts(bus_write(INTENCLR, 4, SOURCE_10))
+        .reads(bus_read(INTISR, 4), 0)
+}
+
+// Sources 0 and 1 are the bridge's lines and have no input.
+fn node_sources(run: Run) -> Run {
+    run.fresh()
+        .refuses(node_input(1, true), 7)
+        .accepts(node_input(2, true))
+        .accepts(node_input(31, true))
+        .refuses(node_input(32, true), 7)
+}
+
 fn main() {
     let run = Run::start();
     let run = example_5(run);
@@ -183,5 +233,9 @@ fn main() {
     let run = example_12_status(run);
     let run = example_12_mail(run);
     let run = example_13(run);
+    let run = node_route(run);
+    let run = node_level(run);
+    let run = node_edge(run);
+    let run = node_sources(run);
     run.show_totals();
 }

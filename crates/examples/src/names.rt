@@ -71,7 +71,7 @@ fn show_first(n: u64) {
     );
 }
 
-fn show_last(n: u64) {
+fn show_second(n: u64) {
     show_line(
         b"9c INTIRR
 10a INTCLR = 8
@@ -104,11 +104,35 @@ fn show_last(n: u64) {
     );
 }
 
+fn show_third(n: u64) {
+    show_line(
+        b"8.2 Entry 10 = 0xff
+8.2 Entry 10
+8.2 Entry 10 = 0x42, Intenset, node input 10 high
+8.2 Intenclr
+8.2 Inten
+8.2 level mode, Intisr
+8.2 edge mode, node input 10 up and down, Intisr
+8.2 Intenclr
+8.2 Intisr
+8.2 node input 1 high
+8.2 node input 2 high
+8.2 node input 31 high
+8.2 node input 32 high
+",
+        n,
+    );
+}
+
 // Prints the name of comparison n.
 pub(crate) fn show_name(n: u64) {
     if n < 30 {
         show_first(n);
-    } else {
-        show_last(n - 30);
+        return;
     }
+    if n < 56 {
+        show_second(n - 30);
+        return;
+    }
+    show_third(n - 56);
 }

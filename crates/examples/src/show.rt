@@ -28,13 +28,21 @@ fn digit(n: u64) -> u8 {
     if n % 2 == 0 { b'0' } else { b'1' }
 }
 
-// The four lines, the IPI line of core 0 first.
+// The twelve lines, the IPI line of core 0 first.
 pub(crate) fn lines(bits: u64) {
     let digits = [
         digit(bits),
         digit(bits / 2),
         digit(bits / 4),
         digit(bits / 8),
+        digit(bits / 16),
+        digit(bits / 32),
+        digit(bits / 64),
+        digit(bits / 128),
+        digit(bits / 256),
+        digit(bits / 512),
+        digit(bits / 1024),
+        digit(bits / 2048),
     ];
     text(b", lines ");
     text(&digits);

@@ -1,6 +1,6 @@
 -- The tables of registers by ranges of the offset, as the code matches on it.
 use Prim.Native.Nat.{ℕ, _+_, _-_, _/_, _%_, _<_, _≤_}
-use mathlib.Core.Path.{_≡_, refl, sym, _∙_}
+use mathlib.Core.Path.{_≡_, refl}
 use mathlib.Core.Bool.{cond, _&&_, false}
 use mathlib.Core.Logic.{_⊎_, inl, inr, ⊎-elim}
 use native.Mathlib.Nat.{add-sub-of-le}
@@ -9,14 +9,13 @@ use lib.Dec.{eqb, leb, ltb}
 use borrow.Author.Needs.{needs}
 use borrow.Author.Tests.{ne-eqb, le-leb, lt-leb, le-ltb}
 use Rattle.access.specs.declared.Rights.the-variants.{Read, Write, Both}
-use Rattle.access.specs.declared.Widths.the-variants.{Four, Eight, FourOrEight}
-use Rattle.access.proofs.Table.{lookup-low, lookup-high}
+use Rattle.access.specs.declared.Widths.the-variants.{Four, FourOrEight}
 use Rattle.bits.proofs.Words.{below}
 use Rattle.bits.proofs.Below.{agree-below}
-use Rattle.ipi.specs.declared.Register.the-variants.{Status, Enable, Set, Clear, MailBox, MailBoxHigh, IpiSend, MailSend}
+use Rattle.ipi.specs.declared.Register.the-variants.{Status, Enable, Set, Clear, MailBox, MailBoxHigh}
 use Rattle.ipi.specs.declared.Found.{Found}
 use Rattle.ipi.specs.declared.Found.the-variants.{Nothing}
-use Rattle.ipi.specs.Table.{entry, table, sends, entryAt, privateEntryAt}
+use Rattle.ipi.specs.Table.{entry, table, entryAt}
 
 -- the mailboxes, from the first on
 abbrev mailBoxAt : ℕ → Found
@@ -58,15 +57,3 @@ by-range o =
     ⊎-elim (λ l. beyond o (inl l))
     (λ h. ⊎-elim (λ l. rw (add-sub-of-le h) at (here (o - 0x1000) (omega arith))) (λ l. beyond o (inr l)) (below o 0x1040))
     (below o 0x1000)
-
--- the private window has two rows more, behind those
-pub private-by-key : (o : ℕ) → privateEntryAt o ≡ cond (eqb o 0x1040) (entry IpiSend Write Four) (cond (eqb o 0x1048) (entry MailSend Write Eight) (entryAt o))
-unfolding privateEntryAt entryAt table sends
-private-by-key o =
-    ⊎-elim
-    (λ l.
-    let ipi = ne-eqb o 0x1040 (λ e. omega arith)
-    in let mail = ne-eqb o 0x1048 (λ e. omega arith)
-    in lookup-low Nothing 0x1000 0x1040 0x1050 table sends tt tt o l ∙ sym (rw (ipi, mail)))
-    (λ h. rw (nothing o (inr h)) (lookup-high Nothing 0x1000 0x1040 0x1050 table sends tt tt o h))
-    (below o 0x1040)

@@ -1,8 +1,8 @@
 -- The registers of one core by offset (01, "Bus window" and "Private window"; tables 7-1, 7-2 and 7-5 of the manual).
---   table           the message cells          entryAt          the register that starts at an offset
---   sends           the two send registers     privateEntryAt   the same in the private window, which has the sends too
+--   table   the message cells          entryAt   the register that starts at an offset
+--   sends   the two send registers     sendAt    the same of the private window's send registers
 use Prim.Native.Nat.{ℕ}
-use mathlib.Core.List.{List, [], _∷_, _++_}
+use mathlib.Core.List.{List, [], _∷_}
 use Rattle.access.specs.declared.Rights.{Rights}
 use Rattle.access.specs.declared.Rights.the-variants.{Read, Write, Both}
 use Rattle.access.specs.declared.Widths.{Widths}
@@ -40,5 +40,5 @@ sends = row 0x1040 (entry IpiSend Write Four) ∷ row 0x1048 (entry MailSend Wri
 unfoldable pub entryAt : ℕ → Found
 entryAt offset = lookup Nothing table offset
 
-unfoldable pub privateEntryAt : ℕ → Found
-privateEntryAt offset = lookup Nothing (table ++ sends) offset
+unfoldable pub sendAt : ℕ → Found
+sendAt offset = lookup Nothing sends offset

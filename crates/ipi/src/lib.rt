@@ -1,7 +1,7 @@
 // Chapter 7: the inter-core interrupt and mailbox registers by offset, the two sends, and what a write to each does.
 ghost use mathlib.Core.Path.{_≡_};
 ghost use Prim.Native.Nat.{_+_, _<_};
-ghost use Rattle.ipi.specs.Table.{entry, entryAt, privateEntryAt};
+ghost use Rattle.ipi.specs.Table.{entry, entryAt, sendAt};
 ghost use Rattle.ipi.specs.Effect.{effectOf, halfOf, inHalf, ipiSent, mailSent, targetOf};
 use access::Access;
 use access::Rights;
@@ -81,14 +81,14 @@ fn mailbox_at(at: u64) -> Found
     }
 }
 
-// The same in the private window, which has the two sends too.
-pub fn private_entry_at(offset: u64) -> Found
-    ensures { λ r. ⌜ r ≡ privateEntryAt offset ⌝ }
+// The send register that starts at an offset of the private window.
+pub fn send_at(offset: u64) -> Found
+    ensures { λ r. ⌜ r ≡ sendAt offset ⌝ }
 {
     match offset {
         0x1040 => entry_of(Register::IpiSend, Rights::Write, Widths::Four),
         0x1048 => entry_of(Register::MailSend, Rights::Write, Widths::Eight),
-        _ => entry_at(offset),
+        _ => Found::Nothing,
     }
 }
 

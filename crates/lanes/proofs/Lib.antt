@@ -1,3 +1,3 @@
 mod Table
-mod LowestBit
-mod Rest
+pub mod LowestBit
+pub mod Rest

@@ -1,62 +1,56 @@
--- The loop of `united`: the result so far, with the bytes that are still to look at, makes the whole.
-use Prim.Native.Nat.{ℕ, _-_, _%_, _^_, _<_}
-use native.Mathlib.Nat.{mod-lt}
+-- The loops over the set bits of a word: the result so far, with the bits that are still to look at, makes the whole.
+use Prim.Native.Nat.{ℕ, _-_, _^_, _<_}
 use mathlib.Core.Path.{_≡_, sym, ap, _∙_}
 use mathlib.Core.Bool.{Bool, true, false, _&&_, _||_, or-assoc, or-false}
-use mathlib.Core.List.{List}
 use lib.Bits.{bitOr, or-lt}
 use lib.Dec.{eqb}
-use lib.ListN.{getD}
 use lib.Pow.{pow-pos}
 use borrow.Author.Tests.{lt-ltb}
-use Rattle.bits.specs.Bits.{bit, some, first, put}
-use Rattle.bits.proofs.Words.{bit-zero, bit-word, bit-mod, is-word}
+use Rattle.bits.specs.Bits.{bit, word, some, first, put}
+use Rattle.bits.proofs.Words.{bit-zero, bit-word, is-word, word-lt}
 use Rattle.bits.proofs.Operations.{bit-or, bit-ones}
 use Rattle.bits.proofs.Cond.{cond-ap}
-use Rattle.lanes.specs.Bytes.{united}
 use Rattle.bits.proofs.Some.{some-cong, some-none, some-split}
 use Rattle.lanes.proofs.LowestBit.{first-set, put-lt}
 
--- one of the n bytes that w picks has bit j set
-unfoldable pub picked : ℕ → List ℕ → ℕ → ℕ → Bool
-picked n bytes w j = some n (λ i. bit w i && bit (getD bytes i 0) j)
+-- one of the n things that w picks has bit j set; bit j of thing i is f i j
+abbrev pub picked : ℕ → (ℕ → ℕ → Bool) → ℕ → ℕ → Bool
+picked n f w j = some n (λ i. bit w i && f i j)
 
-picked-none : (n : ℕ) (bytes : List ℕ) (j : ℕ) → picked n bytes 0 j ≡ false
-unfolding picked
-picked-none n bytes j = some-cong n (λ i h. rw bit-zero) ∙ some-none n
+picked-none : (n : ℕ) (f : ℕ → ℕ → Bool) (j : ℕ) → picked n f 0 j ≡ false
+picked-none n f j = some-cong n (λ i h. rw bit-zero) ∙ some-none n
 
--- byte i apart from the others
-picked-split : (n : ℕ) (bytes : List ℕ) (w i j : ℕ) → i < n → bit w i ≡ true → picked n bytes w j ≡ (bit (getD bytes i 0) j || picked n bytes (put n w i false) j)
-unfolding picked put
-picked-split n bytes w i j h t =
-    some-split n i (λ m. bit w m && bit (getD bytes m 0) j) h
-    ∙ rw t (ap (λ (s : Bool). bit (getD bytes i 0) j || s) (some-cong n (λ m l. rw (bit-word n _ m l) (sym (cond-ap (λ (a : Bool). a && bit (getD bytes m 0) j) (eqb m i) false (bit w m))))))
+-- thing i apart from the others
+picked-split : (n : ℕ) (f : ℕ → ℕ → Bool) (w i j : ℕ) → i < n → bit w i ≡ true → picked n f w j ≡ (f i j || picked n f (put n w i false) j)
+unfolding put
+picked-split n f w i j h t =
+    some-split n i (λ m. bit w m && f m j) h
+    ∙ rw t (ap (λ (s : Bool). f i j || s) (some-cong n (λ m l. rw (bit-word n _ m l) (sym (cond-ap (λ (a : Bool). a && f m j) (eqb m i) false (bit w m))))))
 
--- r is the result so far of the bytes that `which` picks, and w picks those that are still to look at
-pub record Rest (k n : ℕ) (bytes : List ℕ) (which w r : ℕ) : Type 0 where
+-- r is the result so far of the things that `which` picks, and w picks those that are still to look at
+pub record Rest (k n : ℕ) (f : ℕ → ℕ → Bool) (which w r : ℕ) : Type 0 where
   pub left : w < 2 ^ n
   pub small : r < 2 ^ k
-  pub whole : (j : ℕ) → j < k → (bit r j || picked n bytes w j) ≡ picked n bytes which j
+  pub whole : (j : ℕ) → j < k → (bit r j || picked n f w j) ≡ picked n f which j
 
-module _ {k n : ℕ} {bytes : List ℕ} where
-  pub rest-start : {which : ℕ} → which < 2 ^ n → Rest k n bytes which which 0
+module _ {k n : ℕ} {f : ℕ → ℕ → Bool} where
+  pub rest-start : {which : ℕ} → which < 2 ^ n → Rest k n f which which 0
   rest-start h = record { left = h; small = pow-pos k; whole = λ j l. rw bit-zero }
 
-  -- the byte of the lowest set bit goes into the result
-  pub rest-turn : {which w r : ℕ} → Rest k n bytes which w r → (w ≡ 0 → ⊥) → Rest k n bytes which (put n w (first n (bit w)) false) (bitOr r (getD bytes (first n (bit w)) 0 % 2 ^ k))
-  rest-turn {which} {w} {r} o z =
+  -- the thing of the lowest set bit goes into the result
+  pub rest-turn : {which w r x : ℕ} → Rest k n f which w r → (w ≡ 0 → ⊥) → x ≡ word k (f (first n (bit w))) → Rest k n f which (put n w (first n (bit w)) false) (bitOr r x)
+  rest-turn {which} {w} {r} o z e =
       let p = first-set n (o .left) z
-      in record { left = put-lt n w _ false; small = or-lt k _ _ (o .small) (mod-lt _ (pow-pos k)); whole = λ j l. rw (bit-or, bit-mod k, or-assoc, ← picked-split n bytes w (first n (bit w)) j (p .0) (p .1)) (o .whole j l) }
+      in rw e record { left = put-lt n w _ false; small = or-lt k _ _ (o .small) (word-lt k _); whole = λ j l. rw (bit-or, bit-word k _ j l, or-assoc, ← picked-split n f w (first n (bit w)) j (p .0) (p .1)) (o .whole j l) }
 
   -- what is still to look at adds nothing
-  rest-end : {which w r : ℕ} → Rest k n bytes which w r → ((j : ℕ) → j < k → bit r j ≡ (bit r j || picked n bytes w j)) → r ≡ united k n bytes which
-  unfolding united picked
+  rest-end : {which w r : ℕ} → Rest k n f which w r → ((j : ℕ) → j < k → bit r j ≡ (bit r j || picked n f w j)) → r ≡ word k (picked n f which)
   rest-end o e = is-word k (o .small) (λ j l. e j l ∙ o .whole j l)
 
-  -- since no byte is left
-  pub rest-none : {which w r : ℕ} → Rest k n bytes which w r → w ≡ 0 → r ≡ united k n bytes which
-  rest-none o e = rest-end o (λ j l. rw (e, picked-none, or-false))
+  -- since nothing is left
+  pub rest-none : {which w r : ℕ} → Rest k n f which w r → w ≡ 0 → r ≡ word k (picked n f which)
+  rest-none o e = rest-end o (λ j l. rw (e, picked-none n f j, or-false))
 
   -- since every bit is set
-  pub rest-full : {which w r : ℕ} → Rest k n bytes which w r → r ≡ 2 ^ k - 1 → r ≡ united k n bytes which
+  pub rest-full : {which w r : ℕ} → Rest k n f which w r → r ≡ 2 ^ k - 1 → r ≡ word k (picked n f which)
   rest-full o e = rest-end o (λ j l. rw (e, bit-ones, lt-ltb))

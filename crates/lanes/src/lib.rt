@@ -63,6 +63,20 @@ fn clear_lowest(w: u64) -> u64
     if w == 0 { 0 } else { w & (w - 1) }
 }
 
+// The same of a word of 32 bits; 32 where none is set.
+pub fn lowest32(w: u32) -> u32
+    ensures { λ r. ⌜ r ≡ words.first 32 (words.bit w) ⌝ }
+{
+    u32::trailing_zeros(w)
+}
+
+// The same of a word of 32 bits.
+pub fn clear_lowest32(w: u32) -> u32
+    ensures { λ r. ⌜ r ≡ words.put 32 w (words.first 32 (words.bit w)) false ⌝ }
+{
+    if w == 0 { 0 } else { w & (w - 1) }
+}
+
 // Bits 0 and 1 of the bytes that `which` picks, united. Only those bytes are looked at, and none once both bits are set.
 pub fn united(all: [u8; 64], which: u64) -> u8
     ensures { λ r. ⌜ r ≡ bytes.united 2 64 all which ⌝ }

@@ -1,18 +1,22 @@
 -- The promises of specs/Promises hold of the definition that `step` equals.
-use Prim.Native.Nat.{ℕ, _≤_}
-use mathlib.Core.Path.{_≡_, refl, sym, ap}
+use Prim.Native.Nat.{ℕ, _+_, _*_, _/_, _%_, _<_, _≤_}
+use mathlib.Core.Path.{_≡_, refl, sym, ap, _∙_}
 use mathlib.Core.Logic.{_↔_}
-use mathlib.Core.Bool.{Bool, true, false, cond, _&&_, true≢false}
+use mathlib.Core.Bool.{Bool, true, false, cond, not, _&&_, true≢false}
 use native.Mathlib.Omega.{arith}
 use lib.Dec.{eqb}
 use borrow.Author.Tests.{not-true}
+use Rattle.bits.specs.Bits.{bit}
+use Rattle.bits.specs.Latch.{cleared, latched, risen}
 use Rattle.bits.proofs.Some.{some-at, some-of}
+use Rattle.bits.proofs.Taut.{taut}
+use Rattle.bits.proofs.Words.{bit-word}
 use Rattle.access.specs.declared.Refusal.{Refusal}
 use Rattle.access.specs.declared.Refusal.the-variants as refusal
 use Rattle.access.specs.declared.Verdict.{Verdict}
 use Rattle.access.specs.declared.Verdict.the-variants as verdict
 use Rattle.access.specs.Refusal.{firstOf, refusalNumber}
-use Rattle.admission.specs.Refusals.{bridgeRefusals, inputRefusals}
+use Rattle.admission.specs.Refusals.{bridgeRefusals, inputRefusals, nodeInputRefusals}
 use Rattle.cores.specs.declared.Core.{Core}
 use Rattle.cores.specs.Core as cores
 use Rattle.bridge.specs.declared.Written.{Written}
@@ -20,6 +24,10 @@ use Rattle.bridge.specs.declared.Written.the-variants.{Plain, Changed}
 use Rattle.bridge.specs.Registers.{writtenOf}
 use Rattle.sources.specs.declared.Bridge.{Bridge}
 use Rattle.sources.specs.Sources as sources
+use Rattle.pins.specs.declared.Node.{Node}
+use Rattle.pins.specs.Pins as pins
+use Rattle.pins.specs.Changes as nodes
+use Rattle.pins.proofs.Drive.{drive-level}
 use Rattle.tree.specs.declared.Tree.{Tree}
 use Rattle.tree.specs.declared.Write.the-variants as write
 use Rattle.tree.specs.declared.Change.the-variants as change
@@ -29,10 +37,10 @@ use Rattle.answers.specs.declared.Outcome.the-variants.{Value, Refused}
 use Rattle.steps.specs.declared.Plan.{Plan}
 use Rattle.steps.specs.declared.Plan.the-variants.{Refuse, ReadCore, WriteCore, ReadTree, WriteTree, ChangeTree, Window, Reset}
 use Rattle.device.specs.Device.{answeredOf, resetOf, startOf, withCore0, withCore1}
-use Rattle.steps.specs.Decide.{bridgePlan, decideOf, inputPlan, planned, writtenPlan}
+use Rattle.steps.specs.Decide.{bridgePlan, decideOf, inputPlan, nodeInputPlan, planned, writtenPlan}
 use Rattle.answers.specs.Answers.{outcomeData, outcomeNumber}
 use Rattle.device.specs.Step.{nextOf, outcomeOf, stepOf}
-use Rattle.promises.specs.Promises.{BesideBridge, BridgeLines, BridgeSteps, Cause, IpiLines, Left, Passed, RefusedSteps, Separation, Vector}
+use Rattle.promises.specs.Promises.{BesideBridge, BesideNode, BridgeLines, BridgeSteps, Cause, IpiLines, Left, NodeInputs, Passed, PinLines, RefusedSteps, Routed, Separation, Settles, Vector}
 
 -- ---- refused steps
 
@@ -75,7 +83,7 @@ refused-steps d s reason e =
       lines = ap (λ (x : Device). answeredOf x (outcomeOf d p) .answer) q;
     }
 
--- ---- the four lines
+-- ---- the lines
 
 and-parts : (a b : Bool) → (a && b) ≡ true → (a ≡ true) × (b ≡ true)
 and-parts true b e = (refl, e)
@@ -114,7 +122,45 @@ pub bridge-lines : BridgeLines
 unfolding stepOf answeredOf
 bridge-lines d s = let t = stepOf d s .device .tree in (gated t 0, gated t 1)
 
+routed : (t : Tree) (c p : ℕ) → (tree.pinLine t c p ≡ true) ↔ Routed t c p
+unfolding pins.pinAt
+routed t c p = (
+  λ e.
+      let w = some-at 32 _ e in
+      let a = and-parts _ _ (w .2) in
+      let b = and-parts _ _ (a .0) in
+      let r = and-parts _ _ (b .0) in
+      record { source = w .0; there = w .1; pending = r .0; enabled = r .1; to-core = b .1; to-pin = a .1 },
+  λ r. some-of 32 _ (r .source) (r .there) (rw (r .pending, r .enabled, r .to-core, r .to-pin)),
+)
+
+-- line 4 * c + p is that of core c and pin p
+pin-bit : (t : Tree) (c p : ℕ) → c < 2 → p < 4 → bit (tree.pinsOf t) (4 * c + p) ≡ tree.pinLine t c p
+unfolding pins.pinsOf
+pin-bit t c p h l =
+    let core : (4 * c + p) / 4 ≡ c = omega arith in
+    let pin : (4 * c + p) % 4 ≡ p = omega arith in
+    bit-word 8 _ (4 * c + p) (omega arith) ∙ rw (core, pin)
+
+pub pin-lines : PinLines
+unfolding stepOf answeredOf
+pin-lines d s c p h l = let t = stepOf d s .device .tree in rw (pin-bit t c p h l) (routed t c p)
+
 -- ---- separation
+
+-- a drive that stays is no rise, and a choice that stays clears nothing
+stays : (edge drive latch : Bool) → cond (edge && (not drive && drive)) true (cond (edge && not edge) false latch) ≡ latch
+stays = taut 3 _ _ tt
+
+-- whatever becomes of the bridge's lines
+settles : (n : Node) (before after : ℕ) → Settles n (nodes.settledOf n (n .edge) (pins.driveWord n before) (pins.driveWord n after))
+unfolding nodes.settledOf latched risen cleared
+settles n before after = (
+  refl,
+  λ i l h.
+      bit-word 32 _ i h
+      ∙ rw (bit-word 32 _ i h, drive-level n before i l h, drive-level n after i l h) (stays (bit (n .edge) i) (bit (n .level) i) (bit (n .latch) i)),
+)
 
 core-left : (d : Device) (t : Bool) (k : Core)
     → let e = cond t (withCore0 d k) (withCore1 d k) in
@@ -123,34 +169,41 @@ core-left d true k = (refl, refl, refl)
 core-left d false k = (refl, refl, refl)
 
 left : (d : Device) (p : Plan) → Left p d (nextOf d p)
-unfolding nextOf tree.writtenOf tree.changedOf resetOf startOf tree.resetOf tree.withLevels
+unfolding nextOf tree.actedOf tree.movedOf tree.settledOf tree.writtenOf tree.changedOf resetOf startOf tree.resetOf tree.withLevels
 left d (Refuse reason) = refl
 left d (ReadCore register core width) = refl
 left d (ReadTree read) = refl
 left d (WriteCore effect core) = core-left d (eqb core 0) (cores.appliedOf (cond (eqb core 0) (d .core0) (d .core1)) effect)
-left d (WriteTree (write.Bridge effect)) = ((refl, refl), refl, refl)
-left d (WriteTree (write.Gate written on)) = ((refl, refl), refl, refl)
-left d (ChangeTree (change.Bridge c)) = ((refl, refl), refl, refl)
-left d (ChangeTree (change.Input level source)) = ((refl, refl), refl, refl)
+left d (WriteTree (write.Bridge effect)) = ((refl, refl), refl, settles _ _ _, refl)
+left d (WriteTree (write.Gate written on)) = ((refl, refl), refl, settles _ _ _, refl)
+left d (WriteTree (write.Node effect)) = ((refl, refl), refl, refl, refl)
+left d (ChangeTree (change.Bridge c)) = ((refl, refl), refl, settles _ _ _, refl)
+left d (ChangeTree (change.Input level source)) = ((refl, refl), refl, settles _ _ _, refl)
+left d (ChangeTree (change.Node c)) = ((refl, refl), refl, refl, refl)
+left d (ChangeTree (change.NodeInput level source)) = ((refl, refl), refl, refl, refl)
 left d (Window on) = ((refl, refl), refl)
-left d Reset = refl
+left d Reset = (refl, refl)
 
 pub separation : Separation
 unfolding stepOf answeredOf
 separation d s = left d (decideOf (d .«second_open») s)
 
--- a plan that is refused, or reaches the bridge alone
+-- a plan that is refused leaves the node as it is
+unsettled : (n : Node) → Settles n n
+unsettled n = (refl, λ i l h. refl)
+
+-- a plan that is refused, or reaches the bridge
 written-beside : (d : Device) (v : Verdict) (w : Written) → BesideBridge d (nextOf d (planned v (writtenPlan w)))
-unfolding nextOf writtenPlan tree.writtenOf tree.changedOf
-written-beside d (verdict.Refused reason) w = ((refl, refl), refl, refl)
-written-beside d verdict.Accepted (Plain e) = ((refl, refl), refl, refl)
-written-beside d verdict.Accepted (Changed c) = ((refl, refl), refl, refl)
+unfolding nextOf writtenPlan
+written-beside d (verdict.Refused reason) w = ((refl, refl), refl, unsettled _, refl)
+written-beside d verdict.Accepted (Plain e) = left d (WriteTree (write.Bridge e))
+written-beside d verdict.Accepted (Changed c) = left d (ChangeTree (change.Bridge c))
 
 input-beside : (d : Device) (v : Verdict) (i : ℕ) (level : Bool)
     → BesideBridge d (nextOf d (planned v (ChangeTree (change.Input level i))))
-unfolding nextOf tree.changedOf
-input-beside d (verdict.Refused reason) i level = ((refl, refl), refl, refl)
-input-beside d verdict.Accepted i level = ((refl, refl), refl, refl)
+unfolding nextOf
+input-beside d (verdict.Refused reason) i level = ((refl, refl), refl, unsettled _, refl)
+input-beside d verdict.Accepted i level = left d (ChangeTree (change.Input level i))
 
 pub bridge-steps : BridgeSteps
 unfolding stepOf answeredOf decideOf bridgePlan inputPlan
@@ -158,3 +211,13 @@ bridge-steps d = (
   λ r v. written-beside d (firstOf (bridgeRefusals r true v)) (writtenOf r v),
   λ i level. input-beside d (firstOf (inputRefusals i)) i level,
 )
+
+node-input-beside : (d : Device) (v : Verdict) (i : ℕ) (level : Bool)
+    → BesideNode d (nextOf d (planned v (ChangeTree (change.NodeInput level i))))
+unfolding nextOf
+node-input-beside d (verdict.Refused reason) i level = ((refl, refl), refl, refl, refl)
+node-input-beside d verdict.Accepted i level = left d (ChangeTree (change.NodeInput level i))
+
+pub node-inputs : NodeInputs
+unfolding stepOf answeredOf decideOf nodeInputPlan
+node-inputs d i level = node-input-beside d (firstOf (nodeInputRefusals i)) i level

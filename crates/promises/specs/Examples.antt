@@ -17,7 +17,7 @@ use Rattle.device.specs.Device.{freshOf, withCore0, withCore1, withOpen, withTr
 use Rattle.answers.specs.Answers.{outcomeData, outcomeNumber}
 use Rattle.device.specs.Step.{stepOf}
 
--- 01's refusal number (0: accepted), the read value, and the lines: IPI of core 0 and 1, bridge 0 and 1
+-- 01's refusal number (0: accepted), the read value, and the lines: IPI of core 0 and 1, bridge 0 and 1, and the pins
 pub record Shown : Type 0 where
   pub refusal : ℕ
   pub value : ℕ
@@ -25,6 +25,7 @@ pub record Shown : Type 0 where
   pub ipi1 : Bool
   pub bridge0 : Bool
   pub bridge1 : Bool
+  pub pins : ℕ
 
 abbrev pub shown : Answer → Shown
 shown a = record {
@@ -34,6 +35,7 @@ shown a = record {
   ipi1 = a .ipi1;
   bridge0 = a .bridge0;
   bridge1 = a .bridge1;
+  pins = a .pins;
 }
 
 pub record Ran : Type 0 where
@@ -57,10 +59,10 @@ example s a d = record { steps = s; answers = a; end = d }
 
 -- accepted, all lines low; refused, all lines low
 abbrev ok : ℕ → Shown
-ok v = record { refusal = 0; value = v; ipi0 = false; ipi1 = false; bridge0 = false; bridge1 = false }
+ok v = record { refusal = 0; value = v; ipi0 = false; ipi1 = false; bridge0 = false; bridge1 = false; pins = 0 }
 
 abbrev refused : ℕ → Shown
-refused n = record { refusal = n; value = 0; ipi0 = false; ipi1 = false; bridge0 = false; bridge1 = false }
+refused n = record { refusal = n; value = 0; ipi0 = false; ipi1 = false; bridge0 = false; bridge1 = false; pins = 0 }
 
 -- a core with Status and Enable; and with one mailbox filled
 abbrev cells : ℕ → ℕ → Core
@@ -78,7 +80,7 @@ bridged mask edge level route = record { mask = mask; msi = 0; edge = edge; latc
 
 -- the fresh device with such a bridge, and the gate
 abbrev treed : Bridge → Bool → Device
-treed b gate = withTree freshOf (record { bridge = b; gate = gate })
+treed b gate = withTree freshOf (record { bridge = b; gate = gate; node = freshOf .tree .node })
 
 unfoldable pub examples : List Example
 examples =
@@ -88,11 +90,11 @@ examples =
     ∷ example (PrivateWrite 0 0x1040 4 0x00010005 ∷ []) (ok 0 ∷ []) (withCore1 freshOf (cells 0x20 0))
     ∷ example
     (PrivateWrite 0 0x1040 4 0x00010005 ∷ BusWrite 0x1fe01104 4 0x20 ∷ [])
-    (ok 0 ∷ record { refusal = 0; value = 0; ipi0 = false; ipi1 = true; bridge0 = false; bridge1 = false } ∷ [])
+    (ok 0 ∷ record { refusal = 0; value = 0; ipi0 = false; ipi1 = true; bridge0 = false; bridge1 = false; pins = 0 } ∷ [])
     (withCore1 freshOf (cells 0x20 0x20))
     ∷ example
     (PrivateWrite 0 0x1040 4 0x00010005 ∷ BusWrite 0x1fe01104 4 0x20 ∷ BusWrite 0x3ff0110c 4 0x20 ∷ [])
-    (ok 0 ∷ record { refusal = 0; value = 0; ipi0 = false; ipi1 = true; bridge0 = false; bridge1 = false } ∷ ok 0 ∷ [])
+    (ok 0 ∷ record { refusal = 0; value = 0; ipi0 = false; ipi1 = true; bridge0 = false; bridge1 = false; pins = 0 } ∷ ok 0 ∷ [])
     (withCore1 freshOf (cells 0 0x20))
     -- 3
     ∷ example
@@ -123,7 +125,7 @@ examples =
     ∷ ok 0x8000000000000000
     ∷ ok 0x8000000000000000
     ∷ ok 0x8000000000000000
-    ∷ record { refusal = 0; value = 0; ipi0 = false; ipi1 = false; bridge0 = true; bridge1 = true }
+    ∷ record { refusal = 0; value = 0; ipi0 = false; ipi1 = false; bridge0 = true; bridge1 = true; pins = 0 }
     ∷ [])
     (treed (bridged 0x7fffffffffffffff 0 0x8000000000000000 3) true)
     -- 9

@@ -1,8 +1,8 @@
 -- What holds of every device and every step, stated; the proofs are in proofs/Promises.
 --   RefusedSteps     a refused step has its number and changes nothing (demand 1)
---   IpiLines, BridgeLines   a line is high exactly if an enabled, pending cause is routed to it (demand 2)
---   Separation       a step leaves the parts of the device that its plan does not name; BridgeSteps, the same by the kind of step
-use Prim.Native.Nat.{ℕ, _<_, _≤_}
+--   IpiLines, BridgeLines, PinLines   a line is high exactly if an enabled, pending cause is routed to it (demand 2)
+--   Separation       a step leaves the parts of the device that its plan does not name; BridgeSteps, NodeInputs, the same by the kind of step
+use Prim.Native.Nat.{ℕ, _+_, _*_, _<_, _≤_}
 use mathlib.Core.Path.{_≡_}
 use mathlib.Core.Logic.{_↔_}
 use mathlib.Core.Bool.{Bool, true, false, cond}
@@ -14,12 +14,18 @@ use Rattle.cores.specs.declared.Core.{Core}
 use Rattle.bridge.specs.declared.Register.{Register}
 use Rattle.sources.specs.declared.Bridge.{Bridge}
 use Rattle.sources.specs.Sources.{requestAt}
+use Rattle.routes.specs.Routes.{toCore, toPin}
+use Rattle.pins.specs.declared.Node.{Node}
+use Rattle.pins.specs.Pins as pins
+use Rattle.pins.specs.Changes.{withDrive}
 use Rattle.tree.specs.declared.Tree.{Tree}
 use Rattle.tree.specs.declared.Write.the-variants as write
+use Rattle.tree.specs.declared.Change.the-variants as change
+use Rattle.tree.specs.Tree.{linesOf}
 use Rattle.device.specs.declared.Device.{Device}
 use Rattle.answers.specs.declared.Outcome.the-variants.{Refused}
 use Rattle.steps.specs.declared.Step.{Step}
-use Rattle.steps.specs.declared.Step.the-variants.{BridgeWrite, Input}
+use Rattle.steps.specs.declared.Step.the-variants.{BridgeWrite, Input, NodeInput}
 use Rattle.steps.specs.declared.Plan.{Plan}
 use Rattle.steps.specs.declared.Plan.the-variants.{Refuse, ReadCore, WriteCore, ReadTree, WriteTree, ChangeTree, Window, Reset}
 use Rattle.device.specs.Device.{answeredOf}
@@ -40,7 +46,7 @@ pub record Unchanged (d : Device) (s : Step) : Type 0 where
 abbrev pub RefusedSteps : Type 0
 RefusedSteps = (d : Device) (s : Step) (reason : Refusal) → stepOf d s .answer .outcome ≡ Refused reason → Unchanged d s
 
--- ---- the four lines
+-- ---- the lines
 
 -- a vector that is pending and enabled at a core
 pub record Vector (c : Core) : Type 0 where
@@ -74,6 +80,21 @@ BridgeLines =
     → ((stepOf d s .answer .bridge0 ≡ true) ↔ Passed (stepOf d s .device .tree) 0)
     × ((stepOf d s .answer .bridge1 ≡ true) ↔ Passed (stepOf d s .device .tree) 1)
 
+-- a source of the node that requests service, is enabled, and is routed to core c and to pin p
+pub record Routed (t : Tree) (c p : ℕ) : Type 0 where
+  pub source : ℕ
+  pub there : source < 32
+  pub pending : pins.requestAt (t .node) (linesOf t) source ≡ true
+  pub enabled : bit (t .node .enable) source ≡ true
+  pub to-core : toCore (pins.routeOf (t .node) source) c ≡ true
+  pub to-pin : toPin (pins.routeOf (t .node) source) p ≡ true
+
+-- the line of core c and pin p: one and the same source has all of it
+abbrev pub PinLines : Type 0
+PinLines =
+    (d : Device) (s : Step) (c p : ℕ) → c < 2 → p < 4
+    → (bit (stepOf d s .answer .pins) (4 * c + p) ≡ true) ↔ Routed (stepOf d s .device .tree) c p
+
 -- ---- separation
 
 -- of the devices d before and e after a step
@@ -83,9 +104,21 @@ CoresStay d e = (e .core0 ≡ d .core0) × (e .core1 ≡ d .core1)
 abbrev pub WindowStays : Device → Device → Type 0
 WindowStays d e = e .«second_open» ≡ d .«second_open»
 
--- all but the bridge
+-- all of the node but its latches stays, and of those all but the ones that the bridge's two lines reach
+abbrev pub Settles : Node → Node → Type 0
+Settles n m = (m ≡ withDrive n (n .edge) (m .latch) (n .level)) × ((i : ℕ) → 2 ≤ i → i < 32 → bit (m .latch) i ≡ bit (n .latch) i)
+
+-- all but the bridge, and what follows from it at the node
 abbrev pub BesideBridge : Device → Device → Type 0
-BesideBridge d e = CoresStay d e × (e .tree .gate ≡ d .tree .gate) × WindowStays d e
+BesideBridge d e = CoresStay d e × (e .tree .gate ≡ d .tree .gate) × Settles (d .tree .node) (e .tree .node) × WindowStays d e
+
+-- all but the gate, and what follows from it at the node
+abbrev pub BesideGate : Device → Device → Type 0
+BesideGate d e = CoresStay d e × (e .tree .bridge ≡ d .tree .bridge) × Settles (d .tree .node) (e .tree .node) × WindowStays d e
+
+-- all but the node
+abbrev pub BesideNode : Device → Device → Type 0
+BesideNode d e = CoresStay d e × (e .tree .bridge ≡ d .tree .bridge) × (e .tree .gate ≡ d .tree .gate) × WindowStays d e
 
 -- the core that a write to core c does not reach
 abbrev pub otherCore : Device → ℕ → Core
@@ -98,17 +131,25 @@ Left (ReadCore register core width) d e = e ≡ d
 Left (ReadTree read) d e = e ≡ d
 Left (WriteCore effect core) d e = (otherCore e core ≡ otherCore d core) × (e .tree ≡ d .tree) × WindowStays d e
 Left (WriteTree (write.Bridge effect)) d e = BesideBridge d e
-Left (WriteTree (write.Gate written on)) d e = CoresStay d e × (e .tree .bridge ≡ d .tree .bridge) × WindowStays d e
-Left (ChangeTree change) d e = BesideBridge d e
+Left (WriteTree (write.Gate written on)) d e = BesideGate d e
+Left (WriteTree (write.Node effect)) d e = BesideNode d e
+Left (ChangeTree (change.Bridge c)) d e = BesideBridge d e
+Left (ChangeTree (change.Input level source)) d e = BesideBridge d e
+Left (ChangeTree (change.Node c)) d e = BesideNode d e
+Left (ChangeTree (change.NodeInput level source)) d e = BesideNode d e
 Left (Window on) d e = CoresStay d e × (e .tree ≡ d .tree)
-Left Reset d e = e .tree .bridge .level ≡ d .tree .bridge .level  -- the input levels are outside wires
+Left Reset d e = (e .tree .bridge .level ≡ d .tree .bridge .level) × (e .tree .node .level ≡ d .tree .node .level)  -- the input levels are outside wires
 
 abbrev pub Separation : Type 0
 Separation = (d : Device) (s : Step) → Left (decideOf (d .«second_open») s) d (stepOf d s .device)
 
--- a step by a bridge register's name, and an input change, reach the bridge alone
+-- a step by a bridge register's name, and an input change, reach the bridge, and the node's latches through its lines
 abbrev pub BridgeSteps : Type 0
 BridgeSteps =
     (d : Device)
     → ((r : Register) (v : ℕ) → BesideBridge d (stepOf d (BridgeWrite r v) .device))
     × ((i : ℕ) (level : Bool) → BesideBridge d (stepOf d (Input i level) .device))
+
+-- an input change of the node reaches the node alone
+abbrev pub NodeInputs : Type 0
+NodeInputs = (d : Device) (i : ℕ) (level : Bool) → BesideNode d (stepOf d (NodeInput i level) .device)

@@ -1,4 +1,5 @@
--- The cells of the device are a block; with the rest they are all that there is of a device.
+-- The cells of the device are a block; with the rest they are all that there is of a device whose node has no latch set, as the order rule
+-- sees it.
 use Prim.Native.Nat.{ℕ}
 use mathlib.Core.Path.{_≡_, refl, sym, ap, _∙_}
 use mathlib.Core.Bool.{Bool, true, false}
@@ -7,7 +8,7 @@ use mathlib.Core.List.{[], _∷_, map}
 use native.Mathlib.Omega.{arith}
 use lib.ListN.{length, getD, set}
 use lib.Seq.{ext-getD}
-use Rattle.bits.specs.Bits.{bit, digit}
+use Rattle.bits.specs.Bits.{bit, digit, merge}
 use Rattle.bits.proofs.Writes.{merge-one}
 use Rattle.order.specs.Cells.{Effect, Names}
 use Rattle.order.specs.Viewed.{Block}
@@ -16,14 +17,24 @@ use Rattle.order.proofs.Places.{places-block, places-names, wordsOn}
 use Rattle.ipi.specs.declared.Cell.the-variants.{Status, Enable, MailBox}
 use Rattle.cores.specs.Core as core
 use Rattle.bridge.specs.declared.Cell.the-variants.{Mask, Msi, Route}
+use Rattle.node.specs.declared.Cell as node
+use Rattle.node.specs.declared.Cell.the-variants.{Inten, Entry}
+use Rattle.routes.specs.Routes.{writtenOf}
+use Rattle.pins.specs.declared.Node as pins
+use Rattle.pins.specs.Changes.{withPlain}
 use Rattle.sources.specs.Changes as changes
 use Rattle.tree.specs.Tree as tree
 use Rattle.device.specs.Device.{withCore0, withCore1, withTree}
 use Rattle.device.specs.declared.Device.{Device}
 use Rattle.reorder.specs.declared.Cell.{Cell}
-use Rattle.reorder.specs.declared.Cell.the-variants.{Core0, Core1, Bridge, Gate}
+use Rattle.reorder.specs.declared.Cell.the-variants.{Core0, Core1, Bridge, Gate, Node}
 use Rattle.reorder.specs.Cells.{cells, get, place, rest, same, width}
 use Rattle.reorder.specs.Private.{Whole}
+
+-- the node after an effect, but for its latches
+abbrev nodeOn : pins.Node → node.Cell → ℕ → ℕ → pins.Node
+nodeOn n Inten m b = withPlain n (merge 32 (n .enable) m b) (n .latch) (n .routes)
+nodeOn n (Entry i) m b = withPlain n (n .enable) (n .latch) (writtenOf (n .routes) i m b)
 
 -- a device after an effect
 abbrev pub on : Device → Cell → ℕ → ℕ → Device
@@ -31,6 +42,7 @@ on d (Core0 c) m b = withCore0 d (core.on (d .core0) c m b)
 on d (Core1 c) m b = withCore1 d (core.on (d .core1) c m b)
 on d (Bridge c) m b = withTree d (tree.withBridge (d .tree) (changes.on (d .tree .bridge) c m b))
 on d Gate m b = withTree d (tree.withGate (d .tree) (bit m 0) (bit b 0))
+on d (Node c) m b = withTree d (tree.withNode (d .tree) (nodeOn (d .tree .node) c m b))
 
 abbrev pub apply : Device → Effect Cell → Device
 apply d e = on d (e .cell) (e .mask) (e .bits)
@@ -46,9 +58,29 @@ words-on d (Bridge Mask) m b = refl
 words-on d (Bridge Msi) m b = refl
 words-on d (Bridge (Route i)) m b = refl
 words-on d Gate m b = ap (λ n. set (wordsOf cells d) 9 (n ∷ [])) (merge-one (d .tree .gate) m b)
+words-on d (Node Inten) m b = refl
+words-on d (Node (Entry i)) m b = refl
 
-pub device-block : Block width get same apply (Sized cells)
-device-block = places-block cells place on words-on
+-- what is asked of a device as the rule sees it: its arrays have their lengths, and its node has no latch set
+pub record Seen (d : Device) : Type 0 where
+  pub sized : Sized cells d
+  pub latch : d .tree .node .latch ≡ 0
+
+latch-on : (d : Device) (to : Cell) (m b : ℕ) → on d to m b .tree .node .latch ≡ d .tree .node .latch
+latch-on d (Core0 c) m b = refl
+latch-on d (Core1 c) m b = refl
+latch-on d (Bridge c) m b = refl
+latch-on d Gate m b = refl
+latch-on d (Node Inten) m b = refl
+latch-on d (Node (Entry i)) m b = refl
+
+pub device-block : Block width get same apply Seen
+device-block =
+    let block = places-block cells place on words-on in
+    record {
+      whole = λ d h e. record { sized = block .whole d (h .sized) e; latch = latch-on d (e .cell) (e .mask) (e .bits) ∙ h .latch };
+      masked = λ d h e r. block .masked d (h .sized) e r;
+    }
 
 named : (c : Cell) → nameAt cells (place c) ≡ some c
 named (Core0 Status) = refl
@@ -61,13 +93,15 @@ named (Bridge Mask) = refl
 named (Bridge Msi) = refl
 named (Bridge (Route i)) = refl
 named Gate = refl
+named (Node Inten) = refl
+named (Node (Entry i)) = refl
 
 -- each cell has one name
 pub device-names : Names same
 device-names = places-names cells place named
 
 pub sized : (d : Device) → Whole d → Sized cells d
-sized d h = λ i. 1 ∷ 1 ∷ h .mail0 i ∷ 1 ∷ 1 ∷ h .mail1 i ∷ 1 ∷ 1 ∷ h .routes i ∷ 1 ∷ []
+sized d h = λ i. 1 ∷ 1 ∷ h .mail0 i ∷ 1 ∷ 1 ∷ h .mail1 i ∷ 1 ∷ 1 ∷ h .routes i ∷ 1 ∷ 1 ∷ h .node-routes i ∷ []
 
 -- ---- the rest
 
@@ -78,6 +112,8 @@ rest-on d (Bridge Mask) m b = refl
 rest-on d (Bridge Msi) m b = refl
 rest-on d (Bridge (Route i)) m b = refl
 rest-on d Gate m b = refl
+rest-on d (Node Inten) m b = refl
+rest-on d (Node (Entry i)) m b = refl
 
 digit-same : (x y : Bool) → digit x ≡ digit y → x ≡ y
 digit-same true true p = refl
@@ -85,7 +121,7 @@ digit-same true false p = absurd (omega arith)
 digit-same false true p = absurd (omega arith)
 digit-same false false p = refl
 
-pub device-determined : (d e : Device) → Sized cells d → Sized cells e → rest d ≡ rest e → ((r : Cell) → get d r ≡ get e r) → d ≡ e
+pub device-determined : (d e : Device) → Seen d → Seen e → rest d ≡ rest e → ((r : Cell) → get d r ≡ get e r) → d ≡ e
 device-determined d e h k q s = λ i. record {
   core0 = record {
     status = s (Core0 Status) i;
@@ -108,10 +144,17 @@ device-determined d e h k q s = λ i. record {
       routes = ext-getD 0 (d .tree .bridge .routes) (e .tree .bridge .routes) (size 8) (λ j l. s (Bridge (Route j))) i;
     };
     gate = digit-same (d .tree .gate) (e .tree .gate) (s Gate) i;
+    node = record {
+      enable = s (Node Inten) i;
+      edge = q i .node-edge;
+      latch = (h .latch ∙ sym (k .latch)) i;
+      level = q i .node-level;
+      routes = ext-getD 0 (d .tree .node .routes) (e .tree .node .routes) (size 11) (λ j l. s (Node (Entry j))) i;
+    };
   };
   «second_open» = q i .window;
 }
   where
     -- a row of the one has the length of that of the other
     size : (n : ℕ) → getD (map length (wordsOf cells d)) n 0 ≡ getD (map length (wordsOf cells e)) n 0
-    size n = ap (λ l. getD l n 0) (h ∙ sym k)
+    size n = ap (λ l. getD l n 0) (h .sized ∙ sym (k .sized))

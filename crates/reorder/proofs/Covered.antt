@@ -2,13 +2,14 @@
 use mathlib.Core.Path.{refl}
 use Rattle.ipi.specs.Effect as ipi
 use Rattle.bridge.specs.Registers.{writtenOf}
+use Rattle.node.specs.Effect as node
 use Rattle.tree.specs.Tree.{gateWritten}
-use Rattle.steps.specs.Decide.{writePlan, writtenPlan}
+use Rattle.steps.specs.Decide.{nodePlan, writePlan, writtenPlan}
 use Rattle.reorder.specs.Writes.{givenOf, treeGiven}
 use Rattle.reorder.specs.Covered.{Covered}
 
 pub covered : Covered
-unfolding givenOf treeGiven writePlan writtenPlan writtenOf gateWritten ipi.effectOf ipi.targetOf ipi.ipiSent ipi.mailSent
+unfolding givenOf treeGiven writePlan nodePlan writtenPlan writtenOf node.writtenOf gateWritten ipi.effectOf ipi.targetOf ipi.ipiSent ipi.mailSent
 covered = record {
   enable = λ c w v. refl;
   set = λ c w v. refl;
@@ -24,4 +25,8 @@ covered = record {
   int-mask = λ v. refl;
   msi-en = λ v. refl;
   route-entry = λ i v. refl;
+  intenset = λ w v. refl;
+  intenclr = λ w v. refl;
+  entry = λ i w v. refl;
+  intedge = λ w v. refl;
 }

@@ -8,3 +8,4 @@ pub record Whole (d : Device) : Type 0 where
   pub mail0 : length (d .core0 .mail) ≡ 4
   pub mail1 : length (d .core1 .mail) ≡ 4
   pub routes : length (d .tree .bridge .routes) ≡ 64
+  pub node-routes : length (d .tree .node .routes) ≡ 32

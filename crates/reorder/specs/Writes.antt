@@ -1,4 +1,4 @@
--- Which writes the order rule covers, and what each gives (01, "Which writes the order rule covers").
+-- Which writes the order rule covers, and what each gives (01, "Which writes the order rule covers"; request Q-2).
 --   givenOf    what a plan gives, where the rule covers it      listedIn, Listed   the writes that the rule covers
 --   effectOf   an effect on a cell, as the abstract rule has it  gives              the value that a write gives a bit
 use Prim.Native.Nat.{ℕ}
@@ -18,7 +18,7 @@ use Rattle.steps.specs.declared.Plan.{Plan}
 use Rattle.steps.specs.declared.Plan.the-variants.{Refuse, ReadCore, WriteCore, ReadTree, WriteTree, ChangeTree, Window, Reset}
 use Rattle.steps.specs.Decide.{decideOf}
 use Rattle.reorder.specs.declared.Cell.{Cell}
-use Rattle.reorder.specs.declared.Cell.the-variants.{Core0, Core1, Bridge, Gate}
+use Rattle.reorder.specs.declared.Cell.the-variants.{Core0, Core1, Bridge, Gate, Node}
 use Rattle.reorder.specs.declared.Given.{Given}
 use Rattle.reorder.specs.declared.Given.the-variants.{NotListed, Nothing, Bits}
 use Rattle.reorder.specs.Cells.{same, width}
@@ -33,9 +33,10 @@ ofCore c cell = cond (eqb c 0) (Core0 cell) (Core1 cell)
 unfoldable pub treeGiven : Write → Given
 treeGiven (write.Bridge e) = Bits (Bridge (e .cell)) (e .mask) (e .bits)
 treeGiven (write.Gate written on) = cond written (Bits Gate 1 (digit on)) Nothing
+treeGiven (write.Node e) = Bits (Node (e .cell)) (e .mask) (e .bits)
 
 -- A refused write may stand in a list, and gives no bit a value. Reads, changes that are not plain (an accepted write to SOFT_INT, INTEDGE,
--- INTCLR or AUTO_CTRL, an input change), the window switch and a reset are not in such lists.
+-- INTCLR, AUTO_CTRL or the node's Intedge, an input change of either kind), the window switch and a reset are not in such lists.
 unfoldable pub givenOf : Plan → Given
 givenOf (Refuse reason) = Nothing
 givenOf (WriteCore e core) = Bits (ofCore core (e .cell)) (e .mask) (e .bits)
@@ -71,6 +72,7 @@ isWrite (step.BusRead a w) = false
 isWrite (step.PrivateRead c o w) = false
 isWrite (step.BridgeRead r) = false
 isWrite (step.Input i l) = false
+isWrite (step.NodeInput i l) = false
 isWrite (step.Window on) = false
 isWrite step.Reset = false
 

@@ -3,12 +3,17 @@
 ghost use mathlib.Core.Path.{_≡_};
 ghost use mathlib.Core.Bool.{true};
 ghost use lib.ListN.{length};
+ghost use Rattle.device.specs.Device.{withTree};
+ghost use Rattle.pins.specs.Changes.{withDrive};
+ghost use Rattle.tree.specs.Tree.{withNode};
 ghost use Rattle.reorder.specs.Private.{Whole};
 ghost use Rattle.reorder.specs.Rule.{Ordered, viewOf};
 ghost use Rattle.reorder.specs.Writes as writes;
 use device::Device;
+use pins::Node;
 use steps::Plan;
 use steps::Step;
+use tree::Tree;
 use tree::Write;
 
 // A cell that plain writes reach.
@@ -17,6 +22,7 @@ pub enum Cell {
     Core1(ipi::Cell),
     Bridge(bridge::Cell),
     Gate,
+    Node(node::Cell),
 }
 
 // What a step gives, if the order rule covers it: the bits of the cell that are in mask take the values in bits.
@@ -40,6 +46,12 @@ fn sixty_four(routes: [u8; 64]) -> bool
     true
 }
 
+fn thirty_two(routes: [u8; 32]) -> bool
+    ensures { λ r. ⌜ (r ≡ true) × (length routes ≡ 32) ⌝ }
+{
+    true
+}
+
 // Every value of the type has arrays of their lengths, which is all that the rule asks of a device.
 fn whole(d: Device) -> bool
     ensures { λ r. ⌜ (r ≡ true) × Whole d ⌝ }
@@ -48,12 +60,36 @@ fn whole(d: Device) -> bool
     let core1 = d.core1;
     let tree = d.tree;
     let b = tree.bridge;
+    let n = tree.node;
     let mail0 = core0.mail;
     let mail1 = core1.mail;
     let routes = b.routes;
+    let node_routes = n.routes;
     four(mail0);
     four(mail1);
-    sixty_four(routes)
+    sixty_four(routes);
+    thirty_two(node_routes)
+}
+
+fn with_tree(mut d: Device, tree: Tree) -> Device
+    ensures { λ r. ⌜ r ≡ withTree d tree ⌝ }
+{
+    d.tree = tree;
+    d
+}
+
+fn with_node(mut tree: Tree, node: Node) -> Tree
+    ensures { λ r. ⌜ r ≡ withNode tree node ⌝ }
+{
+    tree.node = node;
+    tree
+}
+
+fn without_latches(mut node: Node) -> Node
+    ensures { λ r. ⌜ r ≡ withDrive node (node .edge) 0 (node .level) ⌝ }
+{
+    node.latch = 0;
+    node
 }
 
 // What the order rule compares of a device; and the promise is the order rule itself, of every device that there is.
@@ -61,7 +97,9 @@ pub fn compared(d: Device) -> Device
     ensures { λ r. ⌜ (r ≡ viewOf d) × Ordered d ⌝ }
 {
     whole(d);
-    d
+    let tree = d.tree;
+    let node = tree.node;
+    with_tree(d, with_node(tree, without_latches(node)))
 }
 
 // ---- what a write gives
@@ -104,6 +142,10 @@ fn tree_given(write: Write) -> Given
             bits_of(Cell::Bridge(cell), effect.mask, effect.bits)
         }
         Write::Gate { written, on } => gate_given(written, on),
+        Write::Node(effect) => {
+            let cell = effect.cell;
+            bits_of(Cell::Node(cell), effect.mask, effect.bits)
+        }
     }
 }
 
@@ -165,6 +207,10 @@ fn is_write(step: Step) -> bool
         } => false,
         Step::BridgeRead { register: _ } => false,
         Step::Input {
+            source: _,
+            level: _,
+        } => false,
+        Step::NodeInput {
             source: _,
             level: _,
         } => false,

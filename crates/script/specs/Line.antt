@@ -10,7 +10,7 @@ use Rattle.access.specs.Table.{Row, lookup, row}
 use Rattle.bridge.specs.declared.Register.the-variants.{RouteEntry}
 use Rattle.bridge.specs.Registers.{registerAt}
 use Rattle.steps.specs.declared.Step.{Step}
-use Rattle.steps.specs.declared.Step.the-variants.{BusRead, BusWrite, PrivateRead, PrivateWrite, BridgeRead, BridgeWrite, Input, Window, Reset}
+use Rattle.steps.specs.declared.Step.the-variants.{BusRead, BusWrite, PrivateRead, PrivateWrite, BridgeRead, BridgeWrite, Input, NodeInput, Window, Reset}
 
 -- `at i` is the number at word i
 unfoldable pub forms : (ℕ → ℕ) → List (Row Step)
@@ -24,11 +24,12 @@ forms at =
     ∷ row 6 (BridgeRead (RouteEntry (at 3)))  -- bridge read ROUTE_ENTRY SOURCE
     ∷ row 7 (BridgeWrite (RouteEntry (at 3)) (at 4))  -- bridge write ROUTE_ENTRY SOURCE VALUE
     ∷ row 8 (Input (at 1) (not (eqb (at 2) 0)))  -- input SOURCE LEVEL
-    ∷ row 9 (Window true)  -- window open
-    ∷ row 10 (Window false)  -- window closed
+    ∷ row 9 (NodeInput (at 2) (not (eqb (at 3) 0)))  -- node input SOURCE LEVEL
+    ∷ row 10 (Window true)  -- window open
+    ∷ row 11 (Window false)  -- window closed
     ∷ []
 
--- form 11, and any other number, is `reset`
+-- form 12, and any other number, is `reset`
 unfoldable pub lineStep : List ℕ → Step
 lineStep v = lookup Reset (forms (λ i. getD v i 0)) (getD v 0 0)
 

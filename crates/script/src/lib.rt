@@ -31,11 +31,13 @@ pub const ROUTE_WRITE: u64 = 7;
 
 pub const INPUT: u64 = 8;
 
-pub const WINDOW_OPEN: u64 = 9;
+pub const NODE_INPUT: u64 = 9;
 
-pub const WINDOW_CLOSED: u64 = 10;
+pub const WINDOW_OPEN: u64 = 10;
 
-pub const RESET: u64 = 11;
+pub const WINDOW_CLOSED: u64 = 11;
+
+pub const RESET: u64 = 12;
 
 fn bridge_read(register: Register) -> Step
     ensures { λ r. ⌜ r ≡ Step.BridgeRead register ⌝ }
@@ -81,6 +83,10 @@ pub fn step_of(v: [u64; 7]) -> Step
         INPUT => Step::Input {
             source: v[1],
             level: v[2] != 0,
+        },
+        NODE_INPUT => Step::NodeInput {
+            source: v[2],
+            level: v[3] != 0,
         },
         WINDOW_OPEN => Step::Window { open: true },
         WINDOW_CLOSED => Step::Window { open: false },

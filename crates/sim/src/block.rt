@@ -4,6 +4,7 @@ use crate::print::CLASH_BRIDGE;
 use crate::print::CLASH_CORE0;
 use crate::print::CLASH_CORE1;
 use crate::print::CLASH_GATE;
+use crate::print::CLASH_NODE;
 use crate::print::put_line;
 use clashes::Clash;
 use reorder::Cell;
@@ -52,12 +53,20 @@ fn bridge_place(cell: bridge::Cell, first: u64) -> Place {
     }
 }
 
+fn node_place(cell: node::Cell, first: u64) -> Place {
+    match cell {
+        node::Cell::Inten => cell_at(first, 0),
+        node::Cell::Entry(index) => cell_at(more(first), index),
+    }
+}
+
 fn place_of(cell: Cell) -> Place {
     match cell {
         Cell::Core0(c) => core_place(c, CLASH_CORE0),
         Cell::Core1(c) => core_place(c, CLASH_CORE1),
         Cell::Bridge(c) => bridge_place(c, CLASH_BRIDGE),
         Cell::Gate => cell_at(CLASH_GATE, 0),
+        Cell::Node(c) => node_place(c, CLASH_NODE),
     }
 }
 

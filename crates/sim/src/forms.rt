@@ -7,36 +7,40 @@ use script::BRIDGE_READ;
 use script::BUS_READ;
 use script::CORE_READ;
 use script::INPUT;
+use script::NODE_INPUT;
 use script::RESET;
 use script::WINDOW_OPEN;
 use text::put;
+use text::same;
 
-pub(crate) const EXPECT_VALUE: u64 = 12;
+pub(crate) const EXPECT_VALUE: u64 = 13;
 
-pub(crate) const EXPECT_REFUSED: u64 = 13;
+pub(crate) const EXPECT_REFUSED: u64 = 14;
 
-pub(crate) const EXPECT_LINES: u64 = 14;
+pub(crate) const EXPECT_LINES: u64 = 15;
 
-pub(crate) const REORDER_BEGIN: u64 = 15;
+pub(crate) const REORDER_BEGIN: u64 = 16;
 
-pub(crate) const REORDER_END: u64 = 16;
+pub(crate) const REORDER_END: u64 = 17;
 
 // Open: any form, and those whose first word is known, or two of them.
-pub(crate) const ANY: u64 = 17;
+pub(crate) const ANY: u64 = 18;
 
-const BUS: u64 = 18;
+const BUS: u64 = 19;
 
-const CORE: u64 = 19;
+const CORE: u64 = 20;
 
-const BRIDGE: u64 = 20;
+const BRIDGE: u64 = 21;
 
-const REGISTER: u64 = 21;
+const REGISTER: u64 = 22;
 
-const WINDOW: u64 = 22;
+const NODE: u64 = 23;
 
-const REORDER: u64 = 23;
+const WINDOW: u64 = 24;
 
-pub(crate) const BLANK: u64 = 24;
+const REORDER: u64 = 25;
+
+pub(crate) const BLANK: u64 = 26;
 
 // Puts the text of a form.
 pub(crate) fn put_form(out: &mut [u8], at: usize, form: u64) -> usize {
@@ -50,19 +54,21 @@ bridge write NAME VALUE
 bridge read ROUTE_ENTRY SOURCE
 bridge write ROUTE_ENTRY SOURCE VALUE
 input SOURCE LEVEL, where LEVEL is 0 or 1
+node input SOURCE LEVEL, where LEVEL is 0 or 1
 window open
 window closed
 reset
 expect VALUE, expect refused N or expect lines BITS
 expect refused N
-expect lines BITS, where BITS is four flags, each 0 or 1
+expect lines BITS, where BITS is four or twelve flags, each 0 or 1
 reorder begin
 reorder end
-bus, core, bridge, input, window, reset, expect or reorder
+bus, core, bridge, input, node, window, reset, expect or reorder
 bus read or bus write
 core C read or core C write
 bridge read or bridge write
 INT_MASK, MSI_EN, INTEDGE, SOFT_INT, AUTO_CTRL0, AUTO_CTRL1, INTCLR, INTISR_CHIP0, INTISR_CHIP1, INTIRR or ROUTE_ENTRY
+node input SOURCE LEVEL, where LEVEL is 0 or 1
 window open or window closed
 reorder begin or reorder end
 ",
@@ -105,17 +111,29 @@ fn bridge_form(form: u64, register: u64) -> u64 {
     REGISTER
 }
 
+// The form of a line of the node, which has one alone.
+fn node_form(second: &[u8]) -> u64 {
+    if same(second, b"input") {
+        return NODE_INPUT;
+    }
+    NODE
+}
+
 // The form that a line begins with its first three words, of which the third may name a register.
 pub(crate) fn form_of(first: &[u8], second: &[u8], third: &[u8], register: u64) -> u64 {
-    match find(b"bus core bridge input window reset expect reorder", first) {
+    match find(
+        b"bus core bridge input node window reset expect reorder",
+        first,
+    ) {
         0 => either(second, b"read write", BUS_READ, BUS),
         1 => either(third, b"read write", CORE_READ, CORE),
         2 => bridge_form(either(second, b"read write", BRIDGE_READ, BRIDGE), register),
         3 => INPUT,
-        4 => either(second, b"open closed", WINDOW_OPEN, WINDOW),
-        5 => RESET,
-        6 => either(second, b"refused lines", EXPECT_REFUSED, EXPECT_VALUE),
-        7 => either(second, b"begin end", REORDER_BEGIN, REORDER),
+        4 => node_form(second),
+        5 => either(second, b"open closed", WINDOW_OPEN, WINDOW),
+        6 => RESET,
+        7 => either(second, b"refused lines", EXPECT_REFUSED, EXPECT_VALUE),
+        8 => either(second, b"begin end", REORDER_BEGIN, REORDER),
         _ => ANY,
     }
 }

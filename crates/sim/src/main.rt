@@ -2,6 +2,7 @@
 mod block;
 mod counts;
 mod forms;
+mod lines;
 mod output;
 mod parse;
 mod print;

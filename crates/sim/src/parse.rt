@@ -3,6 +3,7 @@ use crate::forms::ANY;
 use crate::forms::BLANK;
 use crate::forms::form_of;
 use crate::forms::register_named;
+use crate::lines::flags;
 use crate::print::LEVEL;
 use crate::print::LINES;
 use crate::print::MALFORMED;
@@ -14,7 +15,6 @@ use crate::print::UNEXPECTED;
 use crate::print::UNPRINTABLE;
 use crate::words::Words;
 use crate::words::entry;
-use crate::words::find;
 use crate::words::split;
 use crate::words::word;
 use numbers::Number;
@@ -49,28 +49,26 @@ fn number(word: &[u8]) -> Value {
     }
 }
 
-// A value that has to be below a limit, or else its error.
-fn below(value: Value, limit: u64, error: u64) -> Value {
-    if value.value < limit {
+fn level(value: Value) -> Value {
+    if value.value < 2 {
         return value;
     }
-    wrong(error)
+    wrong(LEVEL)
 }
 
-// Four flags as a number, the first its lowest bit; 16 where the word is no four flags.
-fn flags(word: &[u8]) -> u64 {
-    find(
-        b"0000 1000 0100 1100 0010 1010 0110 1110 0001 1001 0101 1101 0011 1011 0111 1111",
-        word,
-    )
+fn lines(flags: u64) -> Value {
+    if flags == 0 {
+        return wrong(LINES);
+    }
+    right(flags)
 }
 
-// The value of a word of a kind: n a number, l a level, f four flags; a fixed word has the value that is held for its place.
+// The value of a word of a kind: n a number, l a level, f flags; a fixed word has the value that is held for its place.
 fn value_of(kind: u8, word: &[u8], held: u64) -> Value {
     match kind {
         b'n' => number(word),
-        b'l' => below(number(word), 2, LEVEL),
-        b'f' => below(right(flags(word)), 16, LINES),
+        b'l' => level(number(word)),
+        b'f' => lines(flags(word)),
         _ => right(held),
     }
 }
@@ -148,6 +146,7 @@ wwwn
 wwwn
 wwwnn
 wnl
+wwnl
 ww
 ww
 w
@@ -161,6 +160,7 @@ w
 ww
 w
 ww
+w
 w
 w
 ",

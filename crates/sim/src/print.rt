@@ -27,8 +27,8 @@ pub(crate) const FAILED_REFUSED: u64 = 7;
 
 pub(crate) const FAILED_LINES: u64 = 8;
 
-// A clash: the first line for each core, whose lines are for Status, Enable and a mailbox, for the bridge (masks, message enables, a route), and
-// the gate's.
+// A clash: the first line for each core, whose lines are for Status, Enable and a mailbox, for the bridge (masks, message enables, a route), the gate's,
+// and the first for the node (enables, a route).
 pub(crate) const CLASH_CORE0: u64 = 9;
 
 pub(crate) const CLASH_CORE1: u64 = 12;
@@ -37,17 +37,19 @@ pub(crate) const CLASH_BRIDGE: u64 = 15;
 
 pub(crate) const CLASH_GATE: u64 = 18;
 
-pub(crate) const FREE: u64 = 19;
+pub(crate) const CLASH_NODE: u64 = 19;
 
-pub(crate) const CLASHES: u64 = 20;
+pub(crate) const FREE: u64 = 21;
+
+pub(crate) const CLASHES: u64 = 22;
 
 // The last line: with no expectation, and with some.
-pub(crate) const COUNTS: u64 = 21;
+pub(crate) const COUNTS: u64 = 23;
 
-pub(crate) const JUDGED: u64 = 22;
+pub(crate) const JUDGED: u64 = 24;
 
 // Before the output of a file of several.
-pub(crate) const HEADER: u64 = 23;
+pub(crate) const HEADER: u64 = 25;
 
 // The rest are of the table of put_error. A file that cannot be read, the last for any other reason.
 pub(crate) const NO_FILE: u64 = 1;
@@ -109,24 +111,6 @@ pub(crate) fn line_for(n: u64, zero: u64, other: u64) -> u64 {
     other
 }
 
-fn flag(lines: u64, line: u64) -> u8 {
-    if lines & line == 0 {
-        return b'0';
-    }
-    b'1'
-}
-
-// The four lines, the lowest bit first.
-fn put_flags(out: &mut [u8], at: usize, lines: u64) -> usize {
-    let flags = [
-        flag(lines, 1),
-        flag(lines, 2),
-        flag(lines, 4),
-        flag(lines, 8),
-    ];
-    put(out, at, &flags)
-}
-
 fn put_byte(out: &mut [u8], at: usize, byte: u8) -> usize {
     if at < out.len() {
         out[at] = byte;
@@ -135,7 +119,18 @@ fn put_byte(out: &mut [u8], at: usize, byte: u8) -> usize {
     at
 }
 
-// Puts what a byte of a pattern stands for: '#' a value in decimal, '$' in hexadecimal, '&' as four flags, '@' the form of that number,
+// Puts flags (see lines.rt) as digits.
+fn put_flags(out: &mut [u8], at: usize, flags: u64) -> usize {
+    let mut next = at;
+    let mut left = flags;
+    while 1 < left {
+        next = put_byte(out, next, b'0' + (left % 2) as u8);
+        left /= 2;
+    }
+    next
+}
+
+// Puts what a byte of a pattern stands for: '#' a value in decimal, '$' in hexadecimal, '&' as flags, '@' the form of that number,
 // '~' a value that is left out, and '*' a word of the script or the name of a file.
 fn put_mark(out: &mut [u8], at: usize, mark: u8, value: u64, text: &[u8]) -> usize {
     match mark {
@@ -212,6 +207,8 @@ pub(crate) fn put_line(out: &mut [u8], at: usize, n: u64, values: [u64; 5], text
 # clash # # MSI_EN~ 0x$
 # clash # # ROUTE_ENTRY # 0x$
 # clash # # gate~ 0x$
+# clash # # Inten~ 0x$
+# clash # # Entry # 0x$
 # free #
 # clashes~ #
 # steps, # refused, # errors
@@ -245,7 +242,7 @@ error *: cannot be read
 # error \"*\" is not a number, expected: @
 # error \"*\" is above 2^64 - 1, expected: @
 # error \"*\" is not a level, expected: @
-# error \"*\" is not four flags, expected: @
+# error \"*\" is not four or twelve flags, expected: @
 # error expectation before the first step
 # error expectation after a line in error, expected: a step first
 # error expectation in a reorder block, expected: a write of the order rule

@@ -8,6 +8,8 @@ use crate::forms::EXPECT_REFUSED;
 use crate::forms::EXPECT_VALUE;
 use crate::forms::REORDER_BEGIN;
 use crate::forms::REORDER_END;
+use crate::lines::all;
+use crate::lines::as_many;
 use crate::parse::parse;
 use crate::parse::word_at;
 use crate::print::AFTER_ERROR;
@@ -49,7 +51,7 @@ pub(crate) struct Run {
     errors: u64,
     passed: u64,
     failed: u64,
-    // The last step's read value, its refusal number or 0, and its lines as a word.
+    // The last step's read value, its refusal number or 0, and its lines as flags (see lines.rt).
     value: u64,
     refusal: u64,
     lines: u64,
@@ -157,7 +159,7 @@ impl Run {
         self.device = next;
         self.value = outcome.data();
         self.refusal = outcome.number();
-        self.lines = answer.lines();
+        self.lines = all(answer.lines());
         self.steps = more(self.steps);
         self.refused = counted(self.refused, self.refusal);
         self.after_error = false;
@@ -199,7 +201,7 @@ impl Run {
 
     // Judges an expectation by the last step.
     fn expect(mut self, form: u64, wanted: u64, out: &mut [u8]) -> Run {
-        let got = got_of(form, self.value | self.refusal, self.lines);
+        let got = got_of(form, self.value | self.refusal, as_many(self.lines, wanted));
         let missed = (form_met(form, self.refusal) ^ form) | (got ^ wanted);
         self.at = put_line(
             out,

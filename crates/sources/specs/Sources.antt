@@ -10,7 +10,6 @@ use Rattle.bits.specs.Bits.{bit, word, some}
 use Rattle.bridge.specs.declared.Register.{Register}
 use Rattle.bridge.specs.declared.Register.the-variants.{IntMask, MsiEn, IntEdge, SoftInt, AutoCtrl0, AutoCtrl1, IntClr, IntIsrChip0, IntIsrChip1, IntIrr, RouteEntry}
 use Rattle.sources.specs.declared.Bridge.{Bridge}
-use Rattle.sources.specs.declared.Lines.{Lines}
 
 -- drive of a source = input level or soft bit
 abbrev pub drive : Bridge → ℕ → Bool
@@ -32,10 +31,10 @@ inService b k i = pendingAt b i && bit (getD (b .routes) i 0) k
 unfoldable pub lineOf : Bridge → ℕ → Bool
 lineOf b k = some 64 (inService b k)
 
-abbrev pub linesOf : Bridge → Lines
-linesOf b = record { chip0 = lineOf b 0; chip1 = lineOf b 1 }
-
 -- ---- the same as words
+
+unfoldable pub linesOf : Bridge → ℕ
+linesOf b = word 2 (lineOf b)
 
 unfoldable pub driveWord : Bridge → ℕ
 driveWord b = word 64 (drive b)

@@ -21,12 +21,6 @@ pub struct Bridge {
     pub routes: [u8; 64],
 }
 
-// The two outputs, before the gate.
-pub struct Lines {
-    pub chip0: bool,
-    pub chip1: bool,
-}
-
 fn route(routes: [u8; 64], source: u64) -> u8
     ensures { λ r. ⌜ r ≡ getD routes source 0 ⌝ }
 {
@@ -107,16 +101,12 @@ impl Bridge {
         both(self.pending(), lanes::gather(routes, k))
     }
 
-    // Some source is in service for each of the two outputs.
-    pub fn lines(self) -> Lines
+    // The two outputs, before the gate, output k as bit k: some source is in service for it.
+    pub fn lines(self) -> u8
         ensures { λ r. ⌜ r ≡ linesOf self ⌝ }
     {
         let routes = self.routes;
-        let outputs = lanes::united(routes, self.pending()) as u64;
-        Lines {
-            chip0: bits::test(outputs, 0),
-            chip1: bits::test(outputs, 1),
-        }
+        lanes::united(routes, self.pending())
     }
 
     // What a register reads as. No read of INTCLR is accepted.

@@ -8,6 +8,7 @@ use answers::Outcome;
 use cores::Core;
 use device::Device;
 use libc::STDOUT_FILENO;
+use pins::Node;
 use sources::Bridge;
 use steps::Step;
 
@@ -64,6 +65,10 @@ fn step_of(kind: u64, unit: u64, place: u64, width: u64, value: u64) -> Step {
                 Step::Window { open: true }
             }
         }
+        9 => Step::NodeInput {
+            source: place,
+            level: value != 0,
+        },
         _ => access_of(kind, unit, place, width, value),
     }
 }
@@ -75,14 +80,14 @@ fn row_step(row: [u64; 7], x: u64) -> Step {
     step_of(row[0], row[1], place, row[4], value)
 }
 
-// The checksum with an answer: the value or the refusal number, and the four lines.
+// The checksum with an answer: the value or the refusal number, and the twelve lines.
 fn answer_folded(sum: u64, a: Answer) -> u64 {
     let outcome = a.outcome;
     let word = match outcome {
         Outcome::Value(value) => value,
         Outcome::Refused(refusal) => refusal_number(refusal) << 56,
     };
-    ((sum << 7) | (sum >> 57)) ^ word ^ (a.lines() << 60)
+    ((sum << 7) | (sum >> 57)) ^ word ^ (a.lines() << 52)
 }
 
 // The checksum with a word of the end state. Its many operations keep the compiler from unrolling the loop over the routes: unrolled, each
@@ -118,14 +123,31 @@ fn bridge_folded(sum: u64, bridge: Bridge) -> u64 {
     routes_folded(drives, routes)
 }
 
+// As many turns as for the bridge's routes, lest this loop be unrolled.
+fn node_routes_folded(sum: u64, routes: [u8; 32]) -> u64 {
+    let mut s = sum;
+    for i in 0..64 {
+        s = folded(folded(s, wide(routes[i % 32])), i as u64);
+    }
+    s
+}
+
+fn node_folded(sum: u64, node: Node) -> u64 {
+    let routes = node.routes;
+    let enables = folded(folded(sum, node.enable as u64), node.edge as u64);
+    let drives = folded(folded(enables, node.latch as u64), node.level as u64);
+    node_routes_folded(drives, routes)
+}
+
 fn device_folded(sum: u64, d: Device) -> u64 {
     let core0 = d.core0;
     let core1 = d.core1;
     let tree = d.tree;
     let bridge = tree.bridge;
+    let node = tree.node;
     let cores = core_folded(core_folded(sum, core0), core1);
     folded(
-        bridge_folded(cores, bridge),
+        node_folded(bridge_folded(cores, bridge), node),
         (tree.gate as u64) | ((d.second_open as u64) << 1),
     )
 }
@@ -223,6 +245,11 @@ fn dense_last(rows: &mut [[u64; 7]; 64]) {
     fill(rows, 32, &half);
 }
 
+fn tree_last(rows: &mut [[u64; 7]; 64]) {
+    let half = mix::TREE_LAST;
+    fill(rows, 32, &half);
+}
+
 fn messages(n: u64) {
     let mut rows = [[0u64; 7]; 64];
     messages_first(&mut rows);
@@ -244,6 +271,13 @@ fn dense(n: u64) {
     print_run(b"dense", &rows, n);
 }
 
+fn tree(n: u64) {
+    let mut rows = [[0u64; 7]; 64];
+    bridge_first(&mut rows);
+    tree_last(&mut rows);
+    print_run(b"tree", &rows, n);
+}
+
 fn main() {
     let mut digits = io::buffer();
     let length = os::arg(1, &mut digits);
@@ -257,5 +291,8 @@ fn main() {
     }
     if only == 0 || only == b'd' {
         dense(n);
+    }
+    if only == 0 || only == b't' {
+        tree(n);
     }
 }

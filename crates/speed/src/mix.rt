@@ -5,7 +5,8 @@
 //
 //     [kind, unit, place, spread, width, and, or]
 //
-//     kind   0 bus read, 1 bus write, 2 private read, 3 private write, 4 bridge read, 5 bridge write, 6 input change, 7 window switch, 8 reset
+//     kind   0 bus read, 1 bus write, 2 private read, 3 private write, 4 bridge read, 5 bridge write, 6 input change, 7 window switch, 8 reset,
+//            9 node input change
 //     unit   the core of a private access; the register of a bridge access, 0 INT_MASK to 10 ROUTE_ENTRY in the order of 01
 //     place  the address, the offset or the source is place | (x >> 32 & spread)
 //     width  of a bus or private access
@@ -14,7 +15,8 @@
 //
 // 4 rows of 64 are refused; in MESSAGES 3 are, and the second window, closed an eighth of the time, makes up the fourth.
 // Counted over ten million steps (gcc -DCOUNTS): the gate is open for 0.87 of the steps of SPARSE and DENSE; pending are 2.2 sources in
-// SPARSE and 32.9 in DENSE, of which a walk that ends once both lines are high looks at 1.5 and 16.
+// SPARSE and 32.9 in DENSE, of which a walk that ends once both lines are high looks at 1.5 and 16. In TREE the gate is open as long, 1.9
+// sources of the bridge are pending, 6.3 of the node are enabled and 2.9 of those request; each pin is high for half of the steps.
 pub(crate) const SEED: u64 = 0x9e3779b97f4a7c15;
 
 // Messages only: every message register of both cores by every path and width, both sends with every byte mask.
@@ -96,7 +98,7 @@ pub(crate) const MESSAGES_LAST: [[u64; 7]; 32] = [
     [0, 0, 0x1fe01000, 0x10c, 8, 0, 0], // width 8
 ];
 
-// The first half of SPARSE and of DENSE.
+// The first half of SPARSE, of DENSE and of TREE.
 pub(crate) const BRIDGE_FIRST: [[u64; 7]; 32] = [
     // Bus, first window.
     [0, 0, 0x1fe01000, 0x104, 4, 0, 0], // read Status, Enable
@@ -216,4 +218,47 @@ pub(crate) const DENSE_LAST: [[u64; 7]; 32] = [
     [1, 0, 0x3ff00420, 0x1004, 4, 0xffffffff, 0], // no gate in the second window
     [5, 10, 0, 0x3f, 0, 0, 0x100], // route 256
     [4, 10, 0x40, 0x3f, 0, 0, 0], // source past 63
+];
+
+// Inputs of both kinds down to the pins: a few bridge sources pending, the gate open, a few of the node's sources enabled and routed, edge
+// choices among them, those of the bridge's two lines too.
+pub(crate) const TREE_LAST: [[u64; 7]; 32] = [
+    // Bridge writes.
+    [5, 0, 0, 0, 0, 0x8020040100804021, 0x7fdffbfeff7fbfde], // INT_MASK
+    [5, 2, 0, 0, 0, 0x3333333333333333, 0], // INTEDGE
+    [5, 3, 0, 0, 0, 0x3131313131313131, 0], // SOFT_INT
+    [5, 6, 0, 0, 0, 0xf0f0f0f0f0f0f0f, 0], // INTCLR
+    [5, 10, 0, 0x3f, 0, 0xff, 0], // ROUTE_ENTRY
+    // Node reads.
+    [0, 0, 0x1fe01420, 0xc, 4, 0, 0], // Intisr, Inten, Intenset, Intenclr
+    [0, 0, 0x3ff01440, 8, 4, 0, 0], // CORE0_INTISR, CORE1_INTISR
+    [2, 0, 0x1010, 0, 4, 0, 0], // perCore_INTISR
+    [2, 1, 0x1010, 0, 4, 0, 0], // perCore_INTISR
+    [2, 1, 0x1434, 0, 4, 0, 0], // Intedge
+    [0, 0, 0x1fe01400, 0x1f, 1, 0, 0], // Entry
+    // Node writes.
+    [1, 0, 0x1fe01428, 0, 4, 0x842108c7, 0], // Intenset
+    [3, 0, 0x1428, 0, 4, 0x842108c7, 0], // Intenset
+    [1, 0, 0x3ff0142c, 0, 4, 0xffffffff, 0], // Intenclr
+    [3, 1, 0x142c, 0, 4, 0x11111111, 0], // Intenclr
+    [3, 0, 0x1434, 0, 4, 0x33333333, 0], // Intedge
+    [1, 0, 0x1fe01400, 0x1f, 1, 0xff, 0], // Entry
+    [1, 0, 0x3ff01400, 0x1f, 1, 0xff, 0], // Entry
+    [3, 1, 0x1400, 0x1f, 1, 0xff, 0], // Entry
+    // Any input of the bridge, and of the node but for sources 0 and 1, high or low.
+    [6, 0, 0, 0x3f, 0, 1, 0],
+    [6, 0, 0, 0x3f, 0, 1, 0],
+    [6, 0, 0, 0x3f, 0, 1, 0],
+    [6, 0, 0, 0x3f, 0, 1, 0],
+    [9, 0, 2, 0x1d, 0, 1, 0],
+    [9, 0, 4, 0x1b, 0, 1, 0],
+    [9, 0, 8, 0x17, 0, 1, 0],
+    [9, 0, 0x10, 0xf, 0, 1, 0],
+    // A rare reset.
+    [8, 0, 0, 0, 0, 0x3ff, 0],
+    // Refused 2, 4, 5 or 6, and 7.
+    [3, 1, 0x1430, 8, 4, 0xffffffff, 0], // no register
+    [0, 0, 0x1fe01400, 0x1f, 4, 0, 0], // Entry at width 4
+    [1, 0, 0x3ff01440, 8, 4, 0xffffffff, 0x100000000], // a status register
+    [9, 0, 0, 0x21, 0, 1, 0], // source 0, 1, 32 or 33
 ];

@@ -1,24 +1,29 @@
 -- What a step does, from the step and the window switch alone (01, "Kinds of step" and "Refusal numbers"): the first refusal that
 -- applies, or a plan.
---   readPlan, writePlan, accessPlan               what an accepted bus or private access does
---   busPlan, privatePlan, bridgePlan, inputPlan   what becomes of each kind of step
---   decideOf                                      the plan of a step
+--   readPlan, writePlan, accessPlan                     what an accepted bus or private access does
+--   windowPlan, bridgePlan, inputPlan, nodeInputPlan    what becomes of each kind of step
+--   decideOf                                            the plan of a step
 use Prim.Native.Nat.{ℕ}
 use mathlib.Core.Bool.{Bool, true, false, cond}
 use Rattle.access.specs.declared.Verdict.{Verdict}
 use Rattle.access.specs.declared.Verdict.the-variants as verdict
 use Rattle.access.specs.Refusal.{firstOf}
 use Rattle.ipi.specs.Effect.{effectOf, targetOf}
+use Rattle.windows.specs.declared.Window.the-variants.{Private}
+use Rattle.windows.specs.declared.Address.{Address}
 use Rattle.windows.specs.declared.Place.{Place}
-use Rattle.windows.specs.declared.Place.the-variants.{Message, Gate, GateHigh}
-use Rattle.windows.specs.Table.{busAt, privateAt}
+use Rattle.windows.specs.declared.Place.the-variants.{Message, Node, Gate, GateHigh}
+use Rattle.windows.specs.Table.{address, busAddress}
 use Rattle.admission.specs.declared.Admission.{Admission}
 use Rattle.admission.specs.declared.Admission.the-variants.{Refused, At}
-use Rattle.admission.specs.Refusals.{bridgeRefusals, busAdmission, inputRefusals, privateAdmission}
+use Rattle.admission.specs.Refusals.{admissionOf, bridgeRefusals, inputRefusals, nodeInputRefusals}
 use Rattle.bridge.specs.declared.Register.{Register}
 use Rattle.bridge.specs.declared.Written.{Written}
 use Rattle.bridge.specs.declared.Written.the-variants.{Plain, Changed}
 use Rattle.bridge.specs.Registers.{writtenOf}
+use Rattle.node.specs.declared.Written as node
+use Rattle.node.specs.declared.Written.the-variants as written
+use Rattle.node.specs.Effect as nodes
 use Rattle.tree.specs.declared.Read.the-variants as read
 use Rattle.tree.specs.declared.Write.the-variants as write
 use Rattle.tree.specs.declared.Change.the-variants as change
@@ -31,12 +36,19 @@ use Rattle.steps.specs.declared.Plan.the-variants.{Refuse, ReadCore, Wri
 -- ---- what an accepted access does
 
 unfoldable pub readPlan : Place → ℕ → Plan
-readPlan (Message core register) width = ReadCore register core width
+readPlan (Message register core) width = ReadCore register core width
+readPlan (Node register) width = ReadTree (read.Node register)
 readPlan Gate width = ReadTree (read.Gate false width)
 readPlan GateHigh width = ReadTree (read.Gate true width)
 
+-- a plain write to the node, or another change
+unfoldable pub nodePlan : node.Written → Plan
+nodePlan (written.Plain effect) = WriteTree (write.Node effect)
+nodePlan (written.Changed c) = ChangeTree (change.Node c)
+
 unfoldable pub writePlan : Place → ℕ → ℕ → Plan
-writePlan (Message core register) width value = WriteCore (effectOf register width value) (targetOf register core value)
+writePlan (Message register core) width value = WriteCore (effectOf register width value) (targetOf register core value)
+writePlan (Node register) width value = nodePlan (nodes.writtenOf register value)
 writePlan Gate width value = WriteTree (gateWritten false width value)
 writePlan GateHigh width value = WriteTree (gateWritten true width value)
 
@@ -49,11 +61,11 @@ unfoldable pub admittedPlan : Admission → ℕ → Bool → ℕ → Plan
 admittedPlan (Refused reason) width write value = Refuse reason
 admittedPlan (At place) width write value = accessPlan place width write value
 
-abbrev pub busPlan : Bool → ℕ → ℕ → Bool → ℕ → Plan
-busPlan opened address width write value = admittedPlan (busAdmission (busAt address) opened width write value) width write value
+abbrev pub windowPlan : Bool → Address → ℕ → Bool → ℕ → Plan
+windowPlan opened a width write value = admittedPlan (admissionOf a opened width write value) width write value
 
-abbrev pub privatePlan : ℕ → ℕ → ℕ → Bool → ℕ → Plan
-privatePlan core offset width write value = admittedPlan (privateAdmission core (privateAt core offset) width write value) width write value
+abbrev pub privateAddress : ℕ → ℕ → Address
+privateAddress core offset = address (Private core) offset
 
 -- ---- bridge accesses and input changes
 
@@ -74,15 +86,19 @@ bridgePlan register write value =
 unfoldable pub inputPlan : ℕ → Bool → Plan
 inputPlan source level = planned (firstOf (inputRefusals source)) (ChangeTree (change.Input level source))
 
+unfoldable pub nodeInputPlan : ℕ → Bool → Plan
+nodeInputPlan source level = planned (firstOf (nodeInputRefusals source)) (ChangeTree (change.NodeInput level source))
+
 -- ---- every kind of step
 
 unfoldable pub decideOf : Bool → Step → Plan
-decideOf opened (step.BusRead address width) = busPlan opened address width false 0
-decideOf opened (step.BusWrite address width value) = busPlan opened address width true value
-decideOf opened (step.PrivateRead core offset width) = privatePlan core offset width false 0
-decideOf opened (step.PrivateWrite core offset width value) = privatePlan core offset width true value
+decideOf opened (step.BusRead a width) = windowPlan opened (busAddress a) width false 0
+decideOf opened (step.BusWrite a width value) = windowPlan opened (busAddress a) width true value
+decideOf opened (step.PrivateRead core offset width) = windowPlan opened (privateAddress core offset) width false 0
+decideOf opened (step.PrivateWrite core offset width value) = windowPlan opened (privateAddress core offset) width true value
 decideOf opened (step.BridgeRead register) = bridgePlan register false 0
 decideOf opened (step.BridgeWrite register value) = bridgePlan register true value
 decideOf opened (step.Input source level) = inputPlan source level
+decideOf opened (step.NodeInput source level) = nodeInputPlan source level
 decideOf opened (step.Window on) = Window on  -- never refused, as is a reset
 decideOf opened step.Reset = Reset

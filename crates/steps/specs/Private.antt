@@ -1,6 +1,6 @@
 -- For the contracts of private functions alone; no other definition uses these. The forms that the code passes through between a step
 -- and its plan, and the plan that each stands for.
---   requestPlan   a step with reads and writes as one kind
+--   requestPlan   a step with reads and writes, bus and private accesses as one kind
 --   judgedPlan    a request once its access is judged
 use mathlib.Core.Bool.{Bool}
 use Rattle.steps.specs.declared.Plan.{Plan}
@@ -9,13 +9,13 @@ use Rattle.steps.specs.declared.Request.{Request}
 use Rattle.steps.specs.declared.Request.the-variants as request
 use Rattle.steps.specs.declared.Judged.{Judged}
 use Rattle.steps.specs.declared.Judged.the-variants as judged
-use Rattle.steps.specs.Decide.{admittedPlan, bridgePlan, busPlan, inputPlan, privatePlan}
+use Rattle.steps.specs.Decide.{admittedPlan, bridgePlan, inputPlan, nodeInputPlan, windowPlan}
 
 unfoldable pub requestPlan : Bool → Request → Plan
-requestPlan opened (request.Bus address width write value) = busPlan opened address width write value
-requestPlan opened (request.Private core offset width write value) = privatePlan core offset width write value
+requestPlan opened (request.Access address width write value) = windowPlan opened address width write value
 requestPlan opened (request.Bridge register write value) = bridgePlan register write value
 requestPlan opened (request.Input source level) = inputPlan source level
+requestPlan opened (request.NodeInput source level) = nodeInputPlan source level
 requestPlan opened (request.Window on) = plan.Window on
 requestPlan opened request.Reset = plan.Reset
 
@@ -23,5 +23,6 @@ unfoldable pub judgedPlan : Judged → Plan
 judgedPlan (judged.Access admission width write value) = admittedPlan admission width write value
 judgedPlan (judged.Bridge register write value) = bridgePlan register write value
 judgedPlan (judged.Input source level) = inputPlan source level
+judgedPlan (judged.NodeInput source level) = nodeInputPlan source level
 judgedPlan (judged.Window on) = plan.Window on
 judgedPlan judged.Reset = plan.Reset

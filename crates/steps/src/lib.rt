@@ -1,9 +1,8 @@
 // The kinds of step, and what each does: decided from the step and the window switch alone.
 ghost use mathlib.Core.Path.{_≡_};
 ghost use mathlib.Core.Bool.{Bool};
-ghost use Rattle.windows.specs.Table.{busAt, privateAt};
-ghost use Rattle.admission.specs.Refusals.{busAdmission, privateAdmission};
-ghost use Rattle.steps.specs.Decide.{accessPlan, admittedPlan, bridgePlan, decideOf, inputPlan, readPlan, writePlan, writtenPlan};
+ghost use Rattle.admission.specs.Refusals.{admissionOf};
+ghost use Rattle.steps.specs.Decide.{accessPlan, admittedPlan, bridgePlan, decideOf, inputPlan, nodeInputPlan, nodePlan, privateAddress, readPlan, writePlan, writtenPlan};
 ghost use Rattle.steps.specs.Private.{judgedPlan, requestPlan};
 use access::Refusal;
 use access::Verdict;
@@ -12,7 +11,9 @@ use bridge::Written;
 use tree::Change;
 use tree::Read;
 use tree::Write;
+use windows::Address;
 use windows::Place;
+use windows::Window;
 
 // One case for each kind of step.
 pub enum Step {
@@ -47,6 +48,10 @@ pub enum Step {
         source: u64,
         level: bool,
     },
+    NodeInput {
+        source: u64,
+        level: bool,
+    },
     Window {
         open: bool,
     },
@@ -74,17 +79,10 @@ pub enum Plan {
     Reset,
 }
 
-// A step, with reads and writes as one kind. The forms between a step and its plan serve speed: no large function is called from two places.
+// A step, with reads and writes, bus and private accesses as one kind. The forms between a step and its plan serve speed: no large function is called from two places.
 enum Request {
-    Bus {
-        address: u64,
-        width: u64,
-        write: bool,
-        value: u64,
-    },
-    Private {
-        core: u64,
-        offset: u64,
+    Access {
+        address: Address,
         width: u64,
         write: bool,
         value: u64,
@@ -95,6 +93,10 @@ enum Request {
         value: u64,
     },
     Input {
+        source: u64,
+        level: bool,
+    },
+    NodeInput {
         source: u64,
         level: bool,
     },
@@ -121,10 +123,24 @@ enum Judged {
         source: u64,
         level: bool,
     },
+    NodeInput {
+        source: u64,
+        level: bool,
+    },
     Window {
         open: bool,
     },
     Reset,
+}
+
+// What an accepted write to a register of the node does.
+fn node_plan(written: node::Written) -> Plan
+    ensures { λ r. ⌜ r ≡ nodePlan written ⌝ }
+{
+    match written {
+        node::Written::Plain(effect) => Plan::WriteTree(Write::Node(effect)),
+        node::Written::Changed(change) => Plan::ChangeTree(Change::Node(change)),
+    }
 }
 
 // What an accepted write does.
@@ -132,10 +148,11 @@ fn write_plan(place: Place, width: u64, value: u64) -> Plan
     ensures { λ r. ⌜ r ≡ writePlan place width value ⌝ }
 {
     match place {
-        Place::Message { core, register } => Plan::WriteCore {
+        Place::Message { register, core } => Plan::WriteCore {
             effect: ipi::write_effect(register, width, value),
             core: ipi::target(register, core, value),
         },
+        Place::Node(register) => node_plan(node::write(register, value)),
         Place::Gate => Plan::WriteTree(tree::gate_written(false, width, value)),
         Place::GateHigh => Plan::WriteTree(tree::gate_written(true, width, value)),
     }
@@ -155,11 +172,12 @@ fn read_plan(place: Place, width: u64) -> Plan
     ensures { λ r. ⌜ r ≡ readPlan place width ⌝ }
 {
     match place {
-        Place::Message { core, register } => Plan::ReadCore {
+        Place::Message { register, core } => Plan::ReadCore {
             register: register,
             core: core,
             width: width,
         },
+        Place::Node(register) => Plan::ReadTree(Read::Node(register)),
         Place::Gate => gate_read(false, width),
         Place::GateHigh => gate_read(true, width),
     }
@@ -220,10 +238,22 @@ fn input_plan(source: u64, level: bool) -> Plan
     }
 }
 
-fn on_bus(address: u64, width: u64, write: bool, value: u64) -> Request
-    ensures { λ r. ⌜ r ≡ Request.Bus address width write value ⌝ }
+fn node_input_plan(source: u64, level: bool) -> Plan
+    ensures { λ r. ⌜ r ≡ nodeInputPlan source level ⌝ }
 {
-    Request::Bus {
+    match admission::node_input_verdict(source) {
+        Verdict::Refused(refusal) => Plan::Refuse(refusal),
+        Verdict::Accepted => Plan::ChangeTree(Change::NodeInput {
+            level: level,
+            source: source,
+        }),
+    }
+}
+
+fn access(address: Address, width: u64, write: bool, value: u64) -> Request
+    ensures { λ r. ⌜ r ≡ Request.Access address width write value ⌝ }
+{
+    Request::Access {
         address: address,
         width: width,
         write: write,
@@ -231,15 +261,12 @@ fn on_bus(address: u64, width: u64, write: bool, value: u64) -> Request
     }
 }
 
-fn in_private(core: u64, offset: u64, width: u64, write: bool, value: u64) -> Request
-    ensures { λ r. ⌜ r ≡ Request.Private core offset width write value ⌝ }
+fn in_private(core: u64, offset: u64) -> Address
+    ensures { λ r. ⌜ r ≡ privateAddress core offset ⌝ }
 {
-    Request::Private {
-        core: core,
+    Address {
+        window: Window::Private(core),
         offset: offset,
-        width: width,
-        write: write,
-        value: value,
     }
 }
 
@@ -258,26 +285,30 @@ fn requested(step: Step) -> Request
     ensures { λ r. ⌜ ((opened : Bool) → requestPlan opened r ≡ decideOf opened step) ⌝ }
 {
     match step {
-        Step::BusRead { address, width } => on_bus(address, width, false, 0),
+        Step::BusRead { address, width } => access(windows::bus_address(address), width, false, 0),
         Step::BusWrite {
             address,
             width,
             value,
-        } => on_bus(address, width, true, value),
+        } => access(windows::bus_address(address), width, true, value),
         Step::PrivateRead {
             core,
             offset,
             width,
-        } => in_private(core, offset, width, false, 0),
+        } => access(in_private(core, offset), width, false, 0),
         Step::PrivateWrite {
             core,
             offset,
             width,
             value,
-        } => in_private(core, offset, width, true, value),
+        } => access(in_private(core, offset), width, true, value),
         Step::BridgeRead { register } => on_bridge(register, false, 0),
         Step::BridgeWrite { register, value } => on_bridge(register, true, value),
         Step::Input { source, level } => Request::Input {
+            source: source,
+            level: level,
+        },
+        Step::NodeInput { source, level } => Request::NodeInput {
             source: source,
             level: level,
         },
@@ -286,28 +317,11 @@ fn requested(step: Step) -> Request
     }
 }
 
-fn bus_judged(address: u64, opened: bool, width: u64, write: bool, value: u64) -> Judged
-    ensures { λ r. ⌜ r ≡ Judged.Access (busAdmission (busAt address) opened width write value) width write value ⌝ }
+fn access_judged(address: Address, opened: bool, width: u64, write: bool, value: u64) -> Judged
+    ensures { λ r. ⌜ r ≡ Judged.Access (admissionOf address opened width write value) width write value ⌝ }
 {
     Judged::Access {
-        admission: admission::bus_admission(windows::bus_at(address), opened, width, write, value),
-        width: width,
-        write: write,
-        value: value,
-    }
-}
-
-fn private_judged(core: u64, offset: u64, width: u64, write: bool, value: u64) -> Judged
-    ensures { λ r. ⌜ r ≡ Judged.Access (privateAdmission core (privateAt core offset) width write value) width write value ⌝ }
-{
-    Judged::Access {
-        admission: admission::private_admission(
-            core,
-            windows::private_at(core, offset),
-            width,
-            write,
-            value,
-        ),
+        admission: admission::admit(address, opened, width, write, value),
         width: width,
         write: write,
         value: value,
@@ -318,19 +332,12 @@ fn judge(request: Request, opened: bool) -> Judged
     ensures { λ r. ⌜ judgedPlan r ≡ requestPlan opened request ⌝ }
 {
     match request {
-        Request::Bus {
+        Request::Access {
             address,
             width,
             write,
             value,
-        } => bus_judged(address, opened, width, write, value),
-        Request::Private {
-            core,
-            offset,
-            width,
-            write,
-            value,
-        } => private_judged(core, offset, width, write, value),
+        } => access_judged(address, opened, width, write, value),
         Request::Bridge {
             register,
             write,
@@ -341,6 +348,10 @@ fn judge(request: Request, opened: bool) -> Judged
             value: value,
         },
         Request::Input { source, level } => Judged::Input {
+            source: source,
+            level: level,
+        },
+        Request::NodeInput { source, level } => Judged::NodeInput {
             source: source,
             level: level,
         },
@@ -366,6 +377,7 @@ pub fn decide(step: Step, second_open: bool) -> Plan
             value,
         } => bridge_plan(register, write, value),
         Judged::Input { source, level } => input_plan(source, level),
+        Judged::NodeInput { source, level } => node_input_plan(source, level),
         Judged::Window { open } => Plan::Window(open),
         Judged::Reset => Plan::Reset,
     }

@@ -1,18 +1,22 @@
--- The interrupt tree from the sources to the node (01, "The cells", "Bus window" and "The four lines"): the bridge, and the gate behind it.
+-- The interrupt tree from the sources to the cores' pins (01, "The cells", "Bus window" and "The four lines"; request Q-2): the bridge, the
+-- gate behind it, and the node.
 --   freshOf, resetOf   the fresh state and the reset values, with the masks as given
---   readOf      what is read                   gateRead     the gate as it is read
---   writtenOf   the tree after a plain write   gateWritten  what a write to the gate's word does
---   changedOf   the tree after any other change
---   bridgeLine, linesOf   the bridge's lines at the node
+--   bridgeLine, linesOf   the bridge's lines at the node     pinLine, pinsOf   the lines to the cores' pins
+--   readOf      what is read             gateRead     the gate as it is read
+--   writtenOf   a plain write            gateWritten  what a write to the gate's word does
+--   changedOf   any other change
+--   settledOf   what follows from them: the node's latches     actedOf   the tree after a step: moved, and settled
 use Prim.Native.Nat.{ℕ, _^_}
 use mathlib.Core.Bool.{Bool, true, false, cond, _&&_}
 use lib.Dec.{eqb}
 use lib.ListN.{replicate}
-use Rattle.bits.specs.Bits.{bit}
+use Rattle.bits.specs.Bits.{bit, word}
 use Rattle.sources.specs.declared.Bridge.{Bridge}
-use Rattle.sources.specs.declared.Lines.{Lines}
 use Rattle.sources.specs.Sources as sources
 use Rattle.sources.specs.Changes as changes
+use Rattle.pins.specs.declared.Node.{Node}
+use Rattle.pins.specs.Pins as pins
+use Rattle.pins.specs.Changes as nodes
 use Rattle.tree.specs.declared.Tree.{Tree}
 use Rattle.tree.specs.declared.Read.{Read}
 use Rattle.tree.specs.declared.Read.the-variants as read
@@ -20,22 +24,41 @@ use Rattle.tree.specs.declared.Write.{Write}
 use Rattle.tree.specs.declared.Write.the-variants as write
 use Rattle.tree.specs.declared.Change.{Change}
 use Rattle.tree.specs.declared.Change.the-variants as change
+use Rattle.tree.specs.declared.Act.{Act}
+use Rattle.tree.specs.declared.Act.the-variants as act
 
 -- ---- the fresh state and the reset values
 
--- masks as given, everything else 0; the input levels are outside wires
-unfoldable pub withLevels : ℕ → ℕ → Tree
-withLevels mask level = record {
+-- masks as given, everything else 0; the input levels, of the bridge and of the node, are outside wires
+unfoldable pub withLevels : ℕ → ℕ → ℕ → Tree
+withLevels mask level node-level = record {
   bridge = record { mask = mask; msi = 0; edge = 0; latch = 0; soft = 0; level = level; routes = replicate 64 0 };
   gate = false;
+  node = record { enable = 0; edge = 0; latch = 0; level = node-level; routes = replicate 32 0 };
 }
 
 -- input levels start at 0
 unfoldable pub freshOf : ℕ → Tree
-freshOf mask = withLevels mask 0
+freshOf mask = withLevels mask 0 0
 
 unfoldable pub resetOf : ℕ → Tree → Tree
-resetOf mask t = withLevels mask (t .bridge .level)
+resetOf mask t = withLevels mask (t .bridge .level) (t .node .level)
+
+-- ---- the lines
+
+-- bridge line k at the node: gate is 1 and some bit of INTISR_CHIPk is 1
+abbrev pub bridgeLine : Tree → ℕ → Bool
+bridgeLine t k = t .gate && sources.lineOf (t .bridge) k
+
+unfoldable pub linesOf : Tree → ℕ
+linesOf t = word 2 (bridgeLine t)
+
+-- the line of core c and pin p
+abbrev pub pinLine : Tree → ℕ → ℕ → Bool
+pinLine t c p = pins.pinAt (t .node) (linesOf t) c p
+
+abbrev pub pinsOf : Tree → ℕ
+pinsOf t = pins.pinsOf (t .node) (linesOf t)
 
 -- ---- reading
 
@@ -50,6 +73,7 @@ gateWeight high width = cond high (2 ^ 16) (cond (eqb width 8) (2 ^ 48) 0)
 unfoldable pub readOf : Tree → Read → ℕ
 readOf t (read.Bridge register) = sources.readOf (t .bridge) register
 readOf t (read.Gate high width) = gateRead (t .gate) (gateWeight high width)
+readOf t (read.Node register) = pins.readOf (t .node) (linesOf t) register
 
 -- ---- plain writes
 
@@ -59,27 +83,41 @@ gateWritten true width value = write.Gate true (bit value 16)
 gateWritten false width value = write.Gate (eqb width 8) (bit value 48)
 
 abbrev pub withBridge : Tree → Bridge → Tree
-withBridge t b = record { bridge = b; gate = t .gate }
+withBridge t b = record { bridge = b; gate = t .gate; node = t .node }
 
 -- the gate takes a value where a write reaches it
 abbrev pub withGate : Tree → Bool → Bool → Tree
-withGate t written on = record { bridge = t .bridge; gate = cond written on (t .gate) }
+withGate t written on = record { bridge = t .bridge; gate = cond written on (t .gate); node = t .node }
+
+abbrev pub withNode : Tree → Node → Tree
+withNode t n = record { bridge = t .bridge; gate = t .gate; node = n }
 
 unfoldable pub writtenOf : Tree → Write → Tree
 writtenOf t (write.Bridge effect) = withBridge t (changes.appliedOf (t .bridge) effect)
 writtenOf t (write.Gate written on) = withGate t written on
+writtenOf t (write.Node effect) = withNode t (nodes.appliedOf (t .node) effect)
 
 -- ---- any other change
 
 unfoldable pub changedOf : Tree → Change → Tree
 changedOf t (change.Bridge c) = withBridge t (changes.changedOf (t .bridge) c)
 changedOf t (change.Input level source) = withBridge t (changes.inputOf (t .bridge) source level)
+changedOf t (change.Node c) = withNode t (nodes.changedOf (t .node) c)
+changedOf t (change.NodeInput level source) = withNode t (nodes.inputOf (t .node) source level)
 
--- ---- the lines
+-- ---- what follows from them
 
--- bridge line k at the node: gate is 1 and some bit of INTISR_CHIPk is 1
-abbrev pub bridgeLine : Tree → ℕ → Bool
-bridgeLine t k = t .gate && sources.lineOf (t .bridge) k
+-- the node's drives: the bridge's lines, and the input levels
+abbrev pub driveOf : Tree → ℕ
+driveOf t = pins.driveWord (t .node) (linesOf t)
 
-abbrev pub linesOf : Tree → Lines
-linesOf t = record { chip0 = bridgeLine t 0; chip1 = bridgeLine t 1 }
+-- the edge-latch rule of the node, from the tree before a step to the tree after it: whatever raises a drive
+unfoldable pub settledOf : Tree → Tree → Tree
+settledOf before t = withNode t (nodes.settledOf (t .node) (before .node .edge) (driveOf before) (driveOf t))
+
+unfoldable pub movedOf : Tree → Act → Tree
+movedOf t (act.Write w) = writtenOf t w
+movedOf t (act.Change c) = changedOf t c
+
+unfoldable pub actedOf : Tree → Act → Tree
+actedOf t a = settledOf t (movedOf t a)

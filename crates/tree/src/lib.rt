@@ -1,31 +1,44 @@
-// The interrupt tree from the sources to the node: the bridge, and the gate behind it. A block that joins the tree adds a field, and a case
-// to each of the three enums.
+// The interrupt tree from the sources to the cores' pins: the bridge, the gate behind it, and the node. A block that joins the tree adds a
+// field, and a case to each of the three enums.
 ghost use mathlib.Core.Path.{_≡_};
-ghost use Rattle.tree.specs.Tree.{changedOf, freshOf, gateRead, gateWeight, gateWritten, linesOf, readOf, resetOf, withBridge, withGate, withLevels, writtenOf};
+ghost use Rattle.pins.specs.Changes as nodes;
+ghost use Rattle.tree.specs.Tree.{actedOf, changedOf, freshOf, gateRead, gateWeight, gateWritten, linesOf, movedOf, readOf, resetOf, withBridge, withGate, withLevels, withNode, writtenOf};
+ghost use Rattle.tree.specs.Private.{watchedOf};
+use pins::Node;
 use sources::Bridge;
-use sources::Lines;
 
 pub struct Tree {
     pub bridge: Bridge,
     pub gate: bool,
+    pub node: Node,
 }
 
-// What is read: a register of the bridge, or the gate in its word or in the high half of that.
+// What is read: a register of the bridge or of the node, or the gate in its word or in the high half of that.
 pub enum Read {
     Bridge(bridge::Register),
     Gate { high: bool, width: u64 },
+    Node(node::Register),
 }
 
-// What a plain write does: bits of a cell of the bridge take values, or the gate does where the write reaches it.
+// What a plain write does: bits of a cell of the bridge or of the node take values, or the gate does where the write reaches it.
 pub enum Write {
     Bridge(bridge::Effect),
     Gate { written: bool, on: bool },
+    Node(node::Effect),
 }
 
 // What any other accepted step does.
 pub enum Change {
     Bridge(bridge::Change),
     Input { level: bool, source: u64 },
+    Node(node::Change),
+    NodeInput { level: bool, source: u64 },
+}
+
+// What a step does to the tree.
+pub enum Act {
+    Write(Write),
+    Change(Change),
 }
 
 // The gate shown as the bit that `weight` has.
@@ -63,8 +76,8 @@ pub fn gate_written(high: bool, width: u64, value: u64) -> Write
 
 impl Tree {
     // The masks and the input levels as given, and everything else 0.
-    fn with_levels(mask: u64, level: u64) -> Tree
-        ensures { λ r. ⌜ r ≡ withLevels mask level ⌝ }
+    fn with_levels(mask: u64, level: u64, node_level: u32) -> Tree
+        ensures { λ r. ⌜ r ≡ withLevels mask level «node_level» ⌝ }
     {
         Tree {
             bridge: Bridge {
@@ -77,13 +90,20 @@ impl Tree {
                 routes: [0; 64],
             },
             gate: false,
+            node: Node {
+                enable: 0,
+                edge: 0,
+                latch: 0,
+                level: node_level,
+                routes: [0; 32],
+            },
         }
     }
 
     pub fn fresh(mask: u64) -> Tree
         ensures { λ r. ⌜ r ≡ freshOf mask ⌝ }
     {
-        Tree::with_levels(mask, 0)
+        Tree::with_levels(mask, 0, 0)
     }
 
     // The reset values; the input levels stay.
@@ -91,16 +111,19 @@ impl Tree {
         ensures { λ r. ⌜ r ≡ resetOf mask self ⌝ }
     {
         let b = self.bridge;
-        Tree::with_levels(mask, b.level)
+        let n = self.node;
+        Tree::with_levels(mask, b.level, n.level)
     }
 
     pub fn read(self, read: Read) -> u64
         ensures { λ r. ⌜ r ≡ readOf self read ⌝ }
     {
         let b = self.bridge;
+        let n = self.node;
         match read {
             Read::Bridge(register) => b.read(register),
             Read::Gate { high, width } => gate_read(self.gate, gate_weight(high, width)),
+            Read::Node(register) => n.read(self.lines(), register),
         }
     }
 
@@ -120,39 +143,85 @@ impl Tree {
         self
     }
 
-    // The tree after a plain write.
-    pub fn written(self, write: Write) -> Tree
+    fn with_node(mut self, n: Node) -> Tree
+        ensures { λ r. ⌜ r ≡ withNode self n ⌝ }
+    {
+        self.node = n;
+        self
+    }
+
+    // The tree after a plain write, before it settles.
+    fn written(self, write: Write) -> Tree
         ensures { λ r. ⌜ r ≡ writtenOf self write ⌝ }
     {
         let b = self.bridge;
+        let n = self.node;
         match write {
             Write::Bridge(effect) => self.with_bridge(b.applied(effect)),
             Write::Gate { written, on } => self.with_gate(written, on),
+            Write::Node(effect) => self.with_node(n.applied(effect)),
         }
     }
 
-    // The tree after any other change.
-    pub fn changed(self, change: Change) -> Tree
+    // The tree after any other change, before it settles.
+    fn changed(self, change: Change) -> Tree
         ensures { λ r. ⌜ r ≡ changedOf self change ⌝ }
     {
         let b = self.bridge;
+        let n = self.node;
         match change {
             Change::Bridge(change) => self.with_bridge(b.changed(change)),
             Change::Input { level, source } => self.with_bridge(b.input(source, level)),
+            Change::Node(change) => self.with_node(n.changed(change)),
+            Change::NodeInput { level, source } => self.with_node(n.input(source, level)),
         }
     }
 
-    // The bridge's lines at the node, behind the gate.
-    pub fn lines(self) -> Lines
+    fn moved(self, act: Act) -> Tree
+        ensures { λ r. ⌜ r ≡ movedOf self act ⌝ }
+    {
+        match act {
+            Act::Write(write) => self.written(write),
+            Act::Change(change) => self.changed(change),
+        }
+    }
+
+    // The bridge's lines at the node, behind the gate: line k as bit k.
+    pub fn lines(self) -> u8
         ensures { λ r. ⌜ r ≡ linesOf self ⌝ }
     {
         if self.gate {
             let b = self.bridge;
             return b.lines();
         }
-        Lines {
-            chip0: false,
-            chip1: false,
+        0
+    }
+
+    // The node's drives. The bridge's lines are looked at only where a rise of one could be latched.
+    fn watched(self, edge: u32) -> u32
+        ensures { λ r. ⌜ r ≡ watchedOf self edge ⌝ }
+    {
+        let n = self.node;
+        if edge % 4 == 0 {
+            return n.drive(0);
         }
+        n.drive(self.lines())
+    }
+
+    fn settled(self, edge: u32, before: u32) -> Tree
+        ensures { λ r. ⌜ r ≡ withNode self (nodes.settledOf (self .node) edge before (watchedOf self edge)) ⌝ }
+    {
+        let n = self.node;
+        self.with_node(n.settled(edge, before, self.watched(edge)))
+    }
+
+    // The tree after a step, and what follows from it. A change of the choices moves no line, so that those from before the step say
+    // whether the lines are looked at.
+    pub fn acted(self, act: Act) -> Tree
+        ensures { λ r. ⌜ r ≡ actedOf self act ⌝ }
+    {
+        let n = self.node;
+        let before = self.watched(n.edge);
+        self.moved(act).settled(n.edge, before)
     }
 }

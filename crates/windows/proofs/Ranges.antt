@@ -1,96 +1,115 @@
--- The tables of the windows by ranges of the address, as the code matches on it.
-use Prim.Native.Nat.{ℕ, _+_, _-_, _*_, _<_, _≤_}
-use mathlib.Core.Path.{_≡_, sym, ap, _∙_}
-use mathlib.Core.Bool.{Bool, true, false, cond}
+-- The tables of the windows by ranges of the offset, as the code matches on it.
+use Prim.Native.Nat.{ℕ, _+_, _-_, _<_, _≤_}
+use mathlib.Core.Path.{_≡_, refl, ap, _∙_}
+use mathlib.Core.Bool.{cond}
 use mathlib.Core.Logic.{_⊎_, inl, inr, ⊎-elim}
 use mathlib.Core.List.{List, _++_}
 use native.Mathlib.Nat.{add-sub-of-le, zero-add}
 use native.Mathlib.Omega.{arith}
-use lib.Dec.{eqb}
-use borrow.Author.Tests.{ne-eqb}
-use Rattle.access.specs.declared.Widths.the-variants.{Four, FourOrEight}
+use lib.Dec.{T, eqb}
+use borrow.Author.Tests.{le-leb, le-ltb, lt-leb, lt-ltb}
 use Rattle.access.specs.Table.{Row, based, lookup}
-use Rattle.access.proofs.Table.{lookup-based, lookup-high, lookup-low, lookup-outside}
+use Rattle.access.proofs.Table.{filled, lookup-based, lookup-high, lookup-low, lookup-or, lookup-outside}
 use Rattle.bits.proofs.Words.{below}
-use Rattle.ipi.specs.declared.Found.the-variants as found
-use Rattle.ipi.specs.Table.{table, entryAt}
-use Rattle.ipi.proofs.Ranges.{nothing}
-use Rattle.windows.specs.declared.Place.the-variants.{Gate, GateHigh}
+use Rattle.ipi.specs.declared.Entry.{Entry}
+use Rattle.ipi.specs.declared.Found.the-variants as message
+use Rattle.ipi.specs.Table.{entryAt, sendAt, sends, table}
+use Rattle.ipi.proofs.Ranges as messages
+use Rattle.node.specs.declared.Found.the-variants as found
+use Rattle.node.specs.Table as nodes
+use Rattle.node.proofs.Ranges as node
+use Rattle.windows.specs.declared.Window.{Window}
+use Rattle.windows.specs.declared.Window.the-variants.{First, Second, Private}
 use Rattle.windows.specs.declared.Located.{Located}
-use Rattle.windows.specs.declared.Located.the-variants.{Nowhere}
-use Rattle.windows.specs.Table.{busAt, gateTable, locate, messageTable, onCore, unchanged}
-use Rattle.windows.specs.Private.{firstAt, messageAt}
+use Rattle.windows.specs.declared.Located.the-variants.{Nowhere, At}
+use Rattle.windows.specs.Table.{address, aloneIn, busMessages, locatedAt, messagesIn, nodeTable, nowhere, onCore, onNode, windowTable}
+use Rattle.windows.specs.Private.{aloneAt, besideAt, coreIn, coreTerm, ownOffset, withoutTerm}
 
--- ---- the message registers of both cores
+-- ---- the message registers
 
-module _ (second : Bool) (o : ℕ) where
-  abbrev of-core : ℕ → List (Row Located)
-  of-core c = based (0x100 * c) (onCore c second) table
+-- a core's registers without the core term
+own-at : (c o : ℕ) → lookup Nowhere (based 0 (onCore c) table) o ≡ onCore c (entryAt o)
+unfolding entryAt
+own-at c o = rw (zero-add o) at (lookup-based message.Nothing 0 (onCore c) table o)
 
-  pub message-low : o < 0x1100 → messageAt second o ≡ onCore 0 second (entryAt o)
-  unfolding messageAt messageTable entryAt table
-  message-low h =
-      lookup-low Nowhere 0x1000 0x1100 0x1200 (of-core 0) (of-core 1) tt tt o h
-      ∙ (rw (zero-add o) at (lookup-based found.Nothing 0 (onCore 0 second) table o))
+module _ (o : ℕ) where
+  abbrev rows : ℕ → ℕ → List (Row Located)
+  rows base c = based base (onCore c) table
 
-  pub message-high : 0x1100 ≤ o → messageAt second o ≡ onCore 1 second (entryAt (o - 0x100))
-  unfolding messageAt messageTable entryAt table
-  message-high h =
-      lookup-high Nowhere 0x1000 0x1100 0x1200 (of-core 0) (of-core 1) tt tt o h
-      ∙ (rw (add-sub-of-le {n = o} {m = 0x100} (omega arith)) at (lookup-based found.Nothing 0x100 (onCore 1 second) table (o - 0x100)))
+  bus-low : o < 0x1100 → lookup Nowhere busMessages o ≡ onCore 0 (entryAt o)
+  unfolding busMessages table
+  bus-low h = lookup-low Nowhere 0x1000 0x1100 0x1200 (rows 0 0) (rows 0x100 1) tt tt o h ∙ own-at 0 o
 
-  pub message-none : (o < 0x1000) ⊎ (0x1200 ≤ o) → messageAt second o ≡ Nowhere
-  message-none =
+  bus-high : 0x1100 ≤ o → lookup Nowhere busMessages o ≡ onCore 1 (entryAt (o - 0x100))
+  unfolding busMessages table entryAt
+  bus-high h =
+      lookup-high Nowhere 0x1000 0x1100 0x1200 (rows 0 0) (rows 0x100 1) tt tt o h
+      ∙ (rw (add-sub-of-le {n = o} {m = 0x100} (omega arith)) at (lookup-based message.Nothing 0x100 (onCore 1) table (o - 0x100)))
+
+  bus-messages : lookup Nowhere busMessages o ≡ onCore (coreTerm o) (entryAt (withoutTerm o))
+  bus-messages =
       ⊎-elim
-      (λ l. message-low (omega arith) ∙ ap (onCore 0 second) (nothing o (inl l)))
-      (λ l. message-high (omega arith) ∙ ap (onCore 1 second) (nothing (o - 0x100) (inr (omega arith))))
+      (λ l. rw (lt-leb 0x1100 o l) (bus-low l))
+      (λ h.
+      ⊎-elim
+      (λ l. rw (le-leb 0x1100 o h, lt-ltb o 0x1200 l) (bus-high h))
+      (λ l.
+      rw (le-leb 0x1100 o h, le-ltb o 0x1200 l)
+      (bus-high h ∙ rw (messages.nothing (o - 0x100) (inr (omega arith)), messages.nothing o (inr (omega arith)))))
+      (below o 0x1200))
+      (below o 0x1100)
 
--- ---- the first window
+messages-at : (w : Window) (o : ℕ) → lookup Nowhere (messagesIn w) o ≡ onCore (coreIn w o) (entryAt (ownOffset w o))
+unfolding messagesIn
+messages-at First o = bus-messages o
+messages-at Second o = bus-messages o
+messages-at (Private core) o = own-at core o
 
-pub first-by-key : (o : ℕ) → firstAt o ≡ cond (eqb o 0x0420) (locate Gate FourOrEight) (cond (eqb o 0x0424) (locate GateHigh Four) (messageAt false o))
-unfolding firstAt gateTable messageAt messageTable table
-first-by-key o =
-    ⊎-elim
-    (λ l. lookup-low Nowhere 0x0420 0x1000 0x1200 gateTable (messageTable false) tt tt o l ∙ sym (rw (message-none false o (inl l))))
-    (λ h.
-    let low = ne-eqb o 0x0420 (λ e. omega arith)
-    in let high = ne-eqb o 0x0424 (λ e. omega arith)
-    in lookup-high Nowhere 0x0420 0x1000 0x1200 gateTable (messageTable false) tt tt o h ∙ sym (rw (low, high)))
-    (below o 0x1000)
+messages-filled : (w : Window) → T (filled Nowhere nowhere refl (messagesIn w))
+unfolding messagesIn busMessages table
+messages-filled First = tt
+messages-filled Second = tt
+messages-filled (Private core) = tt
 
--- ---- both windows
+-- ---- what one window alone has
 
-abbrev in-first : List (Row Located)
-in-first = gateTable ++ messageTable false
+pub private-alone : (core o : ℕ) → aloneAt (Private core) o ≡ cond (eqb o 0x1010) (onNode (nodes.perCoreOf core)) (onCore core (sendAt o))
+unfolding aloneAt aloneIn sendAt
+private-alone core o = ap (λ (l : Located). cond (eqb o 0x1010) (onNode (nodes.perCoreOf core)) l) (rw (zero-add o) at (lookup-based message.Nothing 0 (onCore core) sends o))
 
-abbrev first-rows : List (Row Located)
-first-rows = based 0x1fe00000 unchanged in-first
+-- it lies below the node's registers
+alone-past : (w : Window) (o : ℕ) → 0x1400 ≤ o → aloneAt w o ≡ Nowhere
+unfolding aloneAt aloneIn sends
+alone-past First o h = lookup-outside 0x0420 0x1400 o (inr h) Nowhere (aloneIn First) tt
+alone-past Second o h = refl
+alone-past (Private core) o h = lookup-outside 0x1010 0x1400 o (inr h) Nowhere (aloneIn (Private core)) tt
 
-abbrev second-rows : List (Row Located)
-second-rows = based 0x3ff00000 unchanged (messageTable true)
+-- ---- and the node's registers
 
-module _ (a : ℕ) where
-  pub bus-first : 0x1fe00000 ≤ a → a < 0x1fe10000 → busAt a ≡ firstAt (a - 0x1fe00000)
-  unfolding busAt firstAt gateTable messageTable table
-  bus-first h l =
-      lookup-low Nowhere 0x1fe00000 0x1fe10000 0x3ff10000 first-rows second-rows tt tt a l
-      ∙ (rw (add-sub-of-le {n = a} {m = 0x1fe00000} h) at (lookup-based Nowhere 0x1fe00000 unchanged in-first (a - 0x1fe00000)))
+module _ (w : Window) (o : ℕ) where
+  beside-or : besideAt w o ≡ cond (nowhere (onNode (nodes.entryAt o))) (aloneAt w o) (onNode (nodes.entryAt o))
+  unfolding besideAt aloneAt nodeTable nodes.entryAt nodes.table
+  beside-or =
+      let e : lookup Nowhere nodeTable o ≡ onNode (nodes.entryAt o) = rw (zero-add o) at (lookup-based found.Nothing 0 onNode nodes.table o)
+      in lookup-or Nowhere nowhere refl nodeTable (aloneIn w) tt o ∙ rw e
 
-  -- past the first window
-  bus-from : 0x1fe10000 ≤ a → busAt a ≡ lookup Nowhere second-rows a
-  unfolding busAt gateTable messageTable table
-  bus-from h = lookup-high Nowhere 0x1fe00000 0x1fe10000 0x3ff10000 first-rows second-rows tt tt a h
+  pub beside-node : 0x1400 ≤ o → besideAt w o ≡ onNode (nodes.entryAt o)
+  beside-node h = beside-or ∙ rw (alone-past w o h) (either (onNode (nodes.entryAt o)))
+    where
+      either : (l : Located) → cond (nowhere l) Nowhere l ≡ l
+      either l = elim l [ Nowhere ↦ refl | At place access ↦ refl ]
 
-  pub bus-second : 0x3ff00000 ≤ a → busAt a ≡ messageAt true (a - 0x3ff00000)
-  unfolding messageAt
-  bus-second h =
-      bus-from (omega arith)
-      ∙ (rw (add-sub-of-le {n = a} {m = 0x3ff00000} h) at (lookup-based Nowhere 0x3ff00000 unchanged (messageTable true) (a - 0x3ff00000)))
+  pub beside-alone : o < 0x1400 → besideAt w o ≡ aloneAt w o
+  beside-alone h = beside-or ∙ rw (node.nothing o (inl h))
 
-  pub bus-below : a < 0x1fe00000 → busAt a ≡ Nowhere
-  unfolding busAt gateTable messageTable table
-  bus-below h = lookup-outside 0x1fe00000 0x3ff10000 a (inl h) Nowhere (first-rows ++ second-rows) tt
+  -- ---- all of them
 
-  pub bus-between : 0x1fe10000 ≤ a → a < 0x3ff00000 → busAt a ≡ Nowhere
-  unfolding messageTable table
-  bus-between h l = bus-from h ∙ lookup-outside 0x3ff00000 0x3ff10000 a (inl l) Nowhere second-rows tt
+  by-message : locatedAt (address w o) ≡ cond (nowhere (onCore (coreIn w o) (entryAt (ownOffset w o)))) (besideAt w o) (onCore (coreIn w o) (entryAt (ownOffset w o)))
+  unfolding locatedAt windowTable besideAt
+  by-message = lookup-or Nowhere nowhere refl (messagesIn w) (nodeTable ++ aloneIn w) (messages-filled w) o ∙ rw (messages-at w o)
+
+  pub located-message : (e : Entry) → entryAt (ownOffset w o) ≡ message.At e → locatedAt (address w o) ≡ onCore (coreIn w o) (message.At e)
+  located-message e q = by-message ∙ rw q
+
+  pub located-beside : entryAt (ownOffset w o) ≡ message.Nothing → locatedAt (address w o) ≡ besideAt w o
+  located-beside q = by-message ∙ rw q

@@ -1,100 +1,208 @@
-// The bus window and the private window of each core: which register an address or an offset names.
+// The windows of the bus and of each core: which register an offset in one of them names.
 ghost use mathlib.Core.Path.{_≡_};
-ghost use Rattle.windows.specs.Table.{busAt, locate, onCore, privateAt};
-ghost use Rattle.windows.specs.Private.{firstAt, messageAt};
+ghost use Rattle.windows.specs.Table.{busAddress, inSecond, locatedAt, onCore, onNode};
+ghost use Rattle.windows.specs.Private.{aloneAt, besideAt, coreIn, coreTerm, gateAt, ownOffset, withoutTerm};
 use access::Access;
 use access::Rights;
 use access::Widths;
 
-// What an address or an offset names: a message register of a core, or the word that holds the gate and its high half.
+// The two windows of the bus, and the private window of a core.
+pub enum Window {
+    First,
+    Second,
+    Private(u64),
+}
+
+// Where an access goes: a window, and the offset in it.
+pub struct Address {
+    pub window: Window,
+    pub offset: u64,
+}
+
+// What an offset in a window names: a message register of a core, a register of the node, or the word that holds the gate and its high half.
+// The register stands first: so the cases lie alike in memory.
 pub enum Place {
-    Message { core: u64, register: ipi::Register },
+    Message { register: ipi::Register, core: u64 },
+    Node(node::Register),
     Gate,
     GateHigh,
 }
 
-// A place, how it may be accessed, and whether it was named in the second window.
-pub struct Location {
-    pub place: Place,
-    pub access: Access,
-    pub second: bool,
-}
-
+// A place, and how it may be accessed.
 pub enum Located {
     Nowhere,
-    At(Location),
+    At { place: Place, access: Access },
 }
 
-// The location of a core's register.
-fn on_core(core: u64, second: bool, found: ipi::Found) -> Located
-    ensures { λ r. ⌜ r ≡ onCore core second found ⌝ }
+// The window of a bus address, and the offset in it. An address below both names nothing, as offset 0 does.
+pub fn bus_address(address: u64) -> Address
+    ensures { λ r. ⌜ r ≡ busAddress address ⌝ }
+{
+    if address < 0x1fe0_0000 {
+        return Address {
+            window: Window::First,
+            offset: 0,
+        };
+    }
+    if address < 0x3ff0_0000 {
+        return Address {
+            window: Window::First,
+            offset: address - 0x1fe0_0000,
+        };
+    }
+    Address {
+        window: Window::Second,
+        offset: address - 0x3ff0_0000,
+    }
+}
+
+// Whether a window is the second of the bus, which can be closed.
+pub fn is_second(window: Window) -> bool
+    ensures { λ r. ⌜ r ≡ inSecond window ⌝ }
+{
+    match window {
+        Window::First => false,
+        Window::Second => true,
+        Window::Private(_) => false,
+    }
+}
+
+// A core's register.
+fn on_core(core: u64, found: ipi::Found) -> Located
+    ensures { λ r. ⌜ r ≡ onCore core found ⌝ }
 {
     match found {
         ipi::Found::Nothing => Located::Nowhere,
         ipi::Found::At(entry) => {
             let register = entry.register;
             let access = entry.access;
-            Located::At(Location {
+            Located::At {
                 place: Place::Message {
-                    core: core,
                     register: register,
+                    core: core,
                 },
                 access: access,
-                second: second,
-            })
+            }
         }
     }
 }
 
-fn gate_at(place: Place, widths: Widths) -> Located
-    ensures { λ r. ⌜ r ≡ locate place widths ⌝ }
+// A register of the node.
+fn on_node(found: node::Found) -> Located
+    ensures { λ r. ⌜ r ≡ onNode found ⌝ }
 {
-    Located::At(Location {
+    match found {
+        node::Found::Nothing => Located::Nowhere,
+        node::Found::At { register, access } => Located::At {
+            place: Place::Node(register),
+            access: access,
+        },
+    }
+}
+
+fn gate_at(place: Place, widths: Widths) -> Located
+    ensures { λ r. ⌜ r ≡ gateAt place widths ⌝ }
+{
+    Located::At {
         place: place,
         access: Access {
             rights: Rights::Both,
             widths: widths,
         },
-        second: false,
-    })
-}
-
-// The message registers of both cores, by their offset in a window.
-fn message_at(second: bool, offset: u64) -> Located
-    ensures { λ r. ⌜ r ≡ messageAt second offset ⌝ }
-{
-    match offset {
-        0x1000..=0x10ff => on_core(0, second, ipi::entry_at(offset)),
-        0x1100..=0x11ff => on_core(1, second, ipi::entry_at(offset - 0x100)),
-        _ => Located::Nowhere,
     }
 }
 
-// The first window has the gate too.
-fn first_at(offset: u64) -> Located
-    ensures { λ r. ⌜ r ≡ firstAt offset ⌝ }
+// On the bus the message registers of core 1 stand 0x100 above those of core 0.
+fn core_term(offset: u64) -> u64
+    ensures { λ r. ⌜ r ≡ coreTerm offset ⌝ }
+{
+    match offset {
+        0x1100..=0x11ff => 1,
+        _ => 0,
+    }
+}
+
+// The core whose message registers an offset may name.
+fn core_in(window: Window, offset: u64) -> u64
+    ensures { λ r. ⌜ r ≡ coreIn window offset ⌝ }
+{
+    match window {
+        Window::First => core_term(offset),
+        Window::Second => core_term(offset),
+        Window::Private(core) => core,
+    }
+}
+
+fn without_term(offset: u64) -> u64
+    ensures { λ r. ⌜ r ≡ withoutTerm offset ⌝ }
+{
+    match offset {
+        0x1100..=0x11ff => offset - 0x100,
+        _ => offset,
+    }
+}
+
+// The offset without the core term.
+fn own_offset(window: Window, offset: u64) -> u64
+    ensures { λ r. ⌜ r ≡ ownOffset window offset ⌝ }
+{
+    match window {
+        Window::First => without_term(offset),
+        Window::Second => without_term(offset),
+        Window::Private(_) => offset,
+    }
+}
+
+// What the first window alone has.
+fn first_alone(offset: u64) -> Located
+    ensures { λ r. ⌜ r ≡ aloneAt Window.First offset ⌝ }
 {
     match offset {
         0x0420 => gate_at(Place::Gate, Widths::FourOrEight),
         0x0424 => gate_at(Place::GateHigh, Widths::Four),
-        _ => message_at(false, offset),
-    }
-}
-
-// What a bus address names.
-pub fn bus_at(address: u64) -> Located
-    ensures { λ r. ⌜ r ≡ busAt address ⌝ }
-{
-    match address {
-        0x1fe0_0000..=0x1fe0_ffff => first_at(address - 0x1fe0_0000),
-        0x3ff0_0000..=0x3ff0_ffff => message_at(true, address - 0x3ff0_0000),
         _ => Located::Nowhere,
     }
 }
 
-// What an offset in the private window of a core names.
-pub fn private_at(core: u64, offset: u64) -> Located
-    ensures { λ r. ⌜ r ≡ privateAt core offset ⌝ }
+// What the private window of a core alone has.
+fn private_alone(core: u64, offset: u64) -> Located
+    ensures { λ r. ⌜ r ≡ aloneAt (Window.Private core) offset ⌝ }
 {
-    on_core(core, false, ipi::private_entry_at(offset))
+    match offset {
+        0x1010 => on_node(node::per_core(core)),
+        _ => on_core(core, ipi::send_at(offset)),
+    }
+}
+
+fn alone(window: Window, offset: u64) -> Located
+    ensures { λ r. ⌜ r ≡ aloneAt window offset ⌝ }
+{
+    match window {
+        Window::First => first_alone(offset),
+        Window::Second => Located::Nowhere,
+        Window::Private(core) => private_alone(core, offset),
+    }
+}
+
+// What is no message register: what one window alone has, and the registers of the node, which every window has from 0x1400 on.
+fn beside(window: Window, offset: u64) -> Located
+    ensures { λ r. ⌜ r ≡ besideAt window offset ⌝ }
+{
+    if offset < 0x1400 {
+        alone(window, offset)
+    } else {
+        on_node(node::entry_at(offset))
+    }
+}
+
+// What an address names.
+pub fn locate(address: Address) -> Located
+    ensures { λ r. ⌜ r ≡ locatedAt address ⌝ }
+{
+    let window = address.window;
+    let offset = address.offset;
+    match ipi::entry_at(own_offset(window, offset)) {
+        ipi::Found::Nothing => beside(window, offset),
+        ipi::Found::At(entry) => on_core(core_in(window, offset), ipi::Found::At(entry)),
+    }
 }

@@ -1,8 +1,5 @@
-use Prim.Native.Nat.{_^_}
-use mathlib.Core.Path.{sym}
-use borrow.Author.Needs.{needs}
-use borrow.Author.Tests.{eq-eqb, ne-eqb, lt-ltb}
 use Rattle.access.specs.Access.{fitting}
+use Rattle.bits.proofs.Tests.{tests}
 use Rattle.access.proofs.fits.Statement.{statement}
 use Rattle.access.proofs.fits.Tie as tie
 
@@ -11,6 +8,7 @@ unfolding fitting
 fits-spec =
     tie.close
     (tie.spec
-    (λ c. simp (eq-eqb _ _ (c .if1 .taken)))  -- returns
-    (λ c. simp (ne-eqb _ _ (c .if1 .left)) (sym (lt-ltb (c .before .args .value) (2 ^ 64) (search needs))))  -- returns-2
+    (λ c. search (tests, c .match .keys1))  -- returns
+    (λ c. search (tests, c .match .keys2))  -- returns-2
+    (λ c. search (tests, c .match .rest))  -- returns-3
     )

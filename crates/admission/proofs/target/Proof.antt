@@ -13,7 +13,9 @@ target-spec =
     (λ c κs. search needs)  -- target-requires
     (λ c. search needs)  -- enum-told
     (λ c. search needs)  -- enum-told-2
+    (λ c. search needs)  -- enum-told-3
     (λ c. search (tests, ← c .target .ensures, c .before .before .place .given .1))  -- returns
     (λ c. search (tests, c .enum-told .given .1))  -- returns-2
     (λ c. search (tests, c .enum-told2 .given .1))  -- returns-3
+    (λ c. search (tests, c .enum-told3 .given .1))  -- returns-4
     )

@@ -17,8 +17,11 @@ spot-of-spec =
     (λ c κs. search needs)  -- source-spot-requires
     (λ c. search needs)  -- enum-told
     (λ c κs. search needs)  -- at-requires
+    (λ c. search needs)  -- enum-known-cell-4
+    (λ c κs. search needs)  -- node-spot-requires
     (λ c. search (tests, ← c .message-spot .ensures, c .before .before .cell .given .1))  -- returns
     (λ c. rw (c .before .before .cell2 .given .1) (c .message-spot2 .ensures ∙ core-spot (c .before .before .cell2 .given .0 .0)))  -- returns-2
     (λ c. search (tests, ← c .source-spot .ensures, c .before .before .cell3 .given .1))  -- returns-3
     (λ c. search (tests, ← c .at .ensures, c .before .enum-told .given .1))  -- returns-4
+    (λ c. search (tests, ← c .node-spot .ensures, c .before .before .cell4 .given .1))  -- returns-5
     )

@@ -1,13 +1,18 @@
 -- `lanes::united` meets its contract, by the laws of `Rest`.
+use mathlib.Core.Path.{sym}
+use lib.ListN.{getD}
 use borrow.Author.Needs.{needs}
 use borrow.Author.Tests.{eqb-true, not-false}
+use Rattle.bits.specs.Bits.{bit}
+use Rattle.bits.proofs.Words.{word-mod}
+use Rattle.lanes.specs.Bytes.{united}
 use Rattle.lanes.proofs.LowestBit.{first-set, clear-less}
 use Rattle.lanes.proofs.Rest.{Rest, rest-start, rest-turn, rest-none, rest-full}
 use Rattle.lanes.proofs.united.Statement.{statement}
 use Rattle.lanes.proofs.united.Tie as tie
 
 abbrev Inv-loop : tie.InvT-loop
-Inv-loop which all w₀ r₀ w r = Rest 2 64 all which w r
+Inv-loop which all w₀ r₀ w r = Rest 2 64 (λ i. bit (getD all i 0)) which w r
 
 abbrev μ-loop : tie.MeasureT-loop
 μ-loop which all w₀ r₀ w r = w
@@ -24,9 +29,10 @@ loop-less c =
 loop-again : tie.Need-loop-again Inv-loop μ-loop
 loop-again c =
     rw (c .clear-lowest .ensures, c .before .lowest .ensures)
-    (rest-turn (c .before .before .before .before .loop .inv) (c .before .before .before .loop-test .taken))
+    (rest-turn (c .before .before .before .before .loop .inv) (c .before .before .before .loop-test .taken) (sym (word-mod 2 _)))
 
 pub united-spec : {M : Type 1} → statement M
+unfolding united
 united-spec =
     tie.close
     (tie.spec

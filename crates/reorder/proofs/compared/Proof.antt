@@ -1,7 +1,6 @@
-use mathlib.Core.Path.{refl}
-use borrow.Author.Needs.{needs}
 use Rattle.reorder.specs.Rule.{viewOf}
 use Rattle.reorder.proofs.Rule.{ordered}
+use borrow.Author.Needs.{needs}
 use Rattle.reorder.proofs.compared.Statement.{statement}
 use Rattle.reorder.proofs.compared.Tie as tie
 
@@ -11,5 +10,11 @@ compared-spec =
     tie.close
     (tie.spec
     (λ c κs. search needs)  -- whole-requires
-    (λ c. (refl, ordered _ (c .whole .ensures .1)))  -- returns
+    (λ c κs. search needs)  -- without-latches-requires
+    (λ c κs. search needs)  -- with-node-requires
+    (λ c κs. search needs)  -- with-tree-requires
+    (λ c. (
+      rw (c .with-tree .ensures, c .before .with-node .ensures, c .before .before .without-latches .ensures),
+      ordered _ (c .before .before .before .before .before .whole .ensures .1),
+    ))  -- returns
     )

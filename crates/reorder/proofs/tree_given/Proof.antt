@@ -13,6 +13,9 @@ tree-given-spec =
     (λ c κs. search needs)  -- bits-of-requires
     (λ c. search needs)  -- enum-known-write-2
     (λ c κs. search needs)  -- gate-given-requires
+    (λ c. search needs)  -- enum-known-write-3
+    (λ c κs. search needs)  -- bits-of-requires-2
     (λ c. search (tests, ← c .bits-of .ensures, c .before .before .write .given .1))  -- returns
     (λ c. search (tests, ← c .gate-given .ensures, c .before .before .write2 .given .1))  -- returns-2
+    (λ c. search (tests, ← c .bits-of2 .ensures, c .before .before .write3 .given .1))  -- returns-3
     )

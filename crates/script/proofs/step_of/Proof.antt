@@ -36,6 +36,8 @@ step-of-spec =
     (λ c κs. search needs)  -- bridge-write-requires-2
     (λ c. search needs)  -- array-read-t68
     (λ c. search needs)  -- array-read-t71
+    (λ c. search needs)  -- array-read-t75
+    (λ c. search needs)  -- array-read-t78
     (λ c. rw (c .match .keys1))  -- returns
     (λ c. rw (c .match .keys2))  -- returns-2
     (λ c. rw (c .match .keys3))  -- returns-3
@@ -47,5 +49,6 @@ step-of-spec =
     (λ c. rw (c .match .keys9))  -- returns-9
     (λ c. rw (c .match .keys10))  -- returns-10
     (λ c. rw (c .match .keys11))  -- returns-11
-    (λ c. search (tests, c .match .rest))  -- returns-12
+    (λ c. rw (c .match .keys12))  -- returns-12
+    (λ c. search (tests, c .match .rest))  -- returns-13
     )

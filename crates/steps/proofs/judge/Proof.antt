@@ -10,15 +10,14 @@ judge-spec =
     tie.close
     (tie.spec
     (λ c. search needs)  -- enum-known-request
-    (λ c κs. search needs)  -- bus-judged-requires
+    (λ c κs. search needs)  -- access-judged-requires
     (λ c. search needs)  -- enum-known-request-2
-    (λ c κs. search needs)  -- private-judged-requires
     (λ c. search needs)  -- enum-known-request-3
     (λ c. search needs)  -- enum-known-request-4
     (λ c. search needs)  -- enum-known-request-5
     (λ c. search needs)  -- enum-told
-    (λ c. rw (c .bus-judged .ensures, c .before .before .request .given .1))  -- returns
-    (λ c. rw (c .private-judged .ensures, c .before .before .request2 .given .1))  -- returns-2
+    (λ c. rw (c .access-judged .ensures, c .before .before .request .given .1))  -- returns
+    (λ c. search (tests, c .before .request2 .given .1))  -- returns-2
     (λ c. search (tests, c .before .request3 .given .1))  -- returns-3
     (λ c. search (tests, c .before .request4 .given .1))  -- returns-4
     (λ c. search (tests, c .before .request5 .given .1))  -- returns-5

@@ -1,5 +1,5 @@
 use Rattle.device.specs.Step.{stepOf}
-use Rattle.bits.proofs.Tests.{tests}
+use Rattle.device.proofs.Classes.{class-next}
 use borrow.Author.Needs.{needs}
 use Rattle.device.proofs.Device.step.Statement.{statement}
 use Rattle.device.proofs.Device.step.Tie as tie
@@ -11,7 +11,8 @@ step-spec =
     (tie.spec
     (λ c κs. search needs)  -- decide-requires
     (λ c κs. search needs)  -- outcome-requires
+    (λ c κs. search needs)  -- class-of-requires
     (λ c κs. search needs)  -- next-requires
     (λ c κs. search needs)  -- answered-requires
-    (λ c. search (tests, ← c .answered .ensures, ← c .before .next .ensures, ← c .before .before .outcome .ensures, ← c .before .before .before .decide .ensures))  -- returns
+    (λ c. rw (c .answered .ensures, c .before .next .ensures, c .before .before .class-of .ensures, class-next, c .before .before .before .outcome .ensures, c .before .before .before .before .decide .ensures))  -- returns
     )

@@ -8,7 +8,7 @@ abbrev Inv-loop : tie.InvT-loop
 Inv-loop a b k₀ k = Unit {0}
 
 abbrev μ-loop : tie.MeasureT-loop
-μ-loop a b k₀ k = 87 - k
+μ-loop a b k₀ k = 124 - k
 
 pub same-reads-spec : {M : Type 1} → statement M
 same-reads-spec =

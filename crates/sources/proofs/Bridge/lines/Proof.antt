@@ -1,19 +1,18 @@
-use native.Mathlib.Omega.{arith}
-use Rattle.sources.proofs.Outputs.{united-line}
+use mathlib.Core.Path.{_∙_}
+use Rattle.lanes.specs.Bytes.{united}
+use Rattle.bits.proofs.Words.{word-cong, bit-word}
+use Rattle.bits.proofs.Some.{some-cong}
+use Rattle.sources.specs.Sources.{lineOf, linesOf}
 use borrow.Author.Needs.{needs}
 use Rattle.sources.proofs.Bridge.lines.Statement.{statement}
 use Rattle.sources.proofs.Bridge.lines.Tie as tie
 
 pub lines-spec : {M : Type 1} → statement M
+unfolding linesOf lineOf united
 lines-spec =
     tie.close
     (tie.spec
     (λ c κs. search needs)  -- pending-requires
     (λ c κs. search needs)  -- united-requires
-    (λ c. search needs)  -- cast-outputs
-    (λ c κs. search needs)  -- test-requires
-    (λ c κs. search needs)  -- test-requires-2
-    (λ c.
-    let b = c .before .before .before .before .before .args .self
-    in rw (c .test2 .ensures, c .before .test .ensures, c .before .before .united .ensures, c .before .before .before .pending .ensures, united-line b 0 (omega arith), united-line b 1 (omega arith)))  -- returns
+    (λ c. c .united .ensures ∙ rw (c .before .pending .ensures) (word-cong 2 (λ k h. some-cong 64 (λ i l. rw (bit-word 64 _ i l)))))  -- returns
     )

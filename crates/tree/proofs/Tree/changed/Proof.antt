@@ -15,6 +15,14 @@ changed-spec =
     (λ c. search needs)  -- enum-known-change-2
     (λ c κs. search needs)  -- input-requires
     (λ c κs. search needs)  -- with-bridge-requires-2
+    (λ c. search needs)  -- enum-known-change-3
+    (λ c κs. search needs)  -- changed-requires-2
+    (λ c κs. search needs)  -- with-node-requires
+    (λ c. search needs)  -- enum-known-change-4
+    (λ c κs. search needs)  -- input-requires-2
+    (λ c κs. search needs)  -- with-node-requires-2
     (λ c. search (tests, ← c .with-bridge .ensures, ← c .before .changed .ensures, c .before .before .before .change .given .1))  -- returns
     (λ c. search (tests, ← c .with-bridge2 .ensures, ← c .before .input .ensures, c .before .before .before .change2 .given .1))  -- returns-2
+    (λ c. search (tests, ← c .with-node .ensures, ← c .before .changed2 .ensures, c .before .before .before .change3 .given .1))  -- returns-3
+    (λ c. search (tests, ← c .with-node2 .ensures, ← c .before .input2 .ensures, c .before .before .before .change4 .given .1))  -- returns-4
     )

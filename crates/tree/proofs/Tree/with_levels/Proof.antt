@@ -8,5 +8,5 @@ unfolding withLevels
 with-levels-spec =
     tie.close
     (tie.spec
-    (λ c. search tests)  -- returns
+    (λ c. search (tests))  -- returns
     )

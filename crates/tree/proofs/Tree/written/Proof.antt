@@ -14,6 +14,10 @@ written-spec =
     (λ c κs. search needs)  -- with-bridge-requires
     (λ c. search needs)  -- enum-known-write-2
     (λ c κs. search needs)  -- with-gate-requires
+    (λ c. search needs)  -- enum-known-write-3
+    (λ c κs. search needs)  -- applied-requires-2
+    (λ c κs. search needs)  -- with-node-requires
     (λ c. search (tests, ← c .with-bridge .ensures, ← c .before .applied .ensures, c .before .before .before .write .given .1))  -- returns
     (λ c. search (tests, ← c .with-gate .ensures, c .before .before .write2 .given .1))  -- returns-2
+    (λ c. search (tests, ← c .with-node .ensures, ← c .before .applied2 .ensures, c .before .before .before .write3 .given .1))  -- returns-3
     )

@@ -1,0 +1,166 @@
+// Section 8.2: the 32 sources of the node: drive, request, the status of a core, and the lines to the pins of both cores.
+ghost use mathlib.Core.Path.{_≡_};
+ghost use mathlib.Core.Bool.{not, _&&_};
+ghost use Rattle.bits.specs.Bits.{bit, word};
+ghost use Rattle.bits.specs.Latch.{latched};
+ghost use Rattle.pins.specs.Pins.{driveWord, pendingAt, pinsOf, readOf, requestWord, statusWord};
+ghost use Rattle.pins.specs.Changes.{appliedOf, changedOf, disabled, inputOf, settledOf};
+use node::Cell;
+use node::Change;
+use node::Effect;
+use node::Register;
+
+// Bit i of each word and byte i of the routes belong to source i. Sources 0 and 1 have no input level: bits 0 and 1 of it show nowhere.
+pub struct Node {
+    pub enable: u32,
+    pub edge: u32,
+    pub latch: u32,
+    pub level: u32,
+    pub routes: [u8; 32],
+}
+
+fn wide(x: u32) -> u64
+    ensures { λ r. ⌜ r ≡ x ⌝ }
+{
+    x as u64
+}
+
+fn both(a: u32, b: u32) -> u32
+    ensures { λ r. ⌜ r ≡ word 32 (λ i. bit a i && bit b i) ⌝ }
+{
+    a & b
+}
+
+// The enables that are given 0.
+fn given_0(mask: u64, bits: u64) -> u64
+    ensures { λ r. ⌜ r ≡ word 64 (λ i. bit mask i && not (bit bits i)) ⌝ }
+{
+    mask & !bits
+}
+
+// Intenclr: the latch goes with the enable.
+fn latch_disabled(latch: u32, mask: u64, bits: u64) -> u32
+    ensures { λ r. ⌜ r ≡ disabled mask bits latch ⌝ }
+{
+    bits::merge32(latch, given_0(mask, bits), 0)
+}
+
+// The edge-latch rule at 32 sources.
+fn latched32(old: u32, new: u32, before: u32, after: u32, latch: u32) -> u32
+    ensures { λ r. ⌜ r ≡ latched 32 old new before after latch ⌝ }
+{
+    let wide = bits::latched(
+        old as u64,
+        new as u64,
+        before as u64,
+        after as u64,
+        latch as u64,
+    );
+    (wide % 0x1_0000_0000) as u32
+}
+
+impl Node {
+    // Sources 0 and 1 are driven by the bridge's two lines, the others by their inputs.
+    pub fn drive(self, lines: u8) -> u32
+        ensures { λ r. ⌜ r ≡ driveWord self lines ⌝ }
+    {
+        bits::merge32(self.level, 3, lines as u64)
+    }
+
+    // Intisr: the latch in edge mode, the drive in level mode.
+    fn requests(self, lines: u8) -> u32
+        ensures { λ r. ⌜ r ≡ requestWord self lines ⌝ }
+    {
+        bits::merge32(self.drive(lines), wide(self.edge), wide(self.latch))
+    }
+
+    // The requests that are enabled.
+    fn pending(self, lines: u8) -> u32
+        ensures { λ r. ⌜ r ≡ word 32 (pendingAt self lines) ⌝ }
+    {
+        both(self.requests(lines), self.enable)
+    }
+
+    // COREc_INTISR.
+    fn status(self, lines: u8, core: u64) -> u32
+        ensures { λ r. ⌜ r ≡ statusWord self lines core ⌝ }
+    {
+        let routes = self.routes;
+        routes::routed(routes, self.pending(lines), core)
+    }
+
+    // The lines to the pins: core c and pin p as bit 4 * c + p.
+    pub fn pins(self, lines: u8) -> u8
+        ensures { λ r. ⌜ r ≡ pinsOf self lines ⌝ }
+    {
+        let routes = self.routes;
+        routes::lines(routes, self.pending(lines))
+    }
+
+    // What a register reads as.
+    pub fn read(self, lines: u8, register: Register) -> u64
+        ensures { λ r. ⌜ r ≡ readOf self lines register ⌝ }
+    {
+        let routes = self.routes;
+        match register {
+            Register::Intisr => wide(self.requests(lines)),
+            Register::Inten => wide(self.enable),
+            Register::Intenset => wide(self.enable),
+            Register::Intenclr => wide(self.enable),
+            Register::Intedge => wide(self.edge),
+            Register::CoreIntisr(core) => wide(self.status(lines, core)),
+            Register::Entry(source) => routes::read(routes, source),
+        }
+    }
+
+    // The node after an effect of a plain write.
+    pub fn applied(mut self, effect: Effect) -> Node
+        ensures { λ r. ⌜ r ≡ appliedOf self effect ⌝ }
+    {
+        let routes = self.routes;
+        let cell = effect.cell;
+        let mask = effect.mask;
+        let bits = effect.bits;
+        match cell {
+            Cell::Inten => {
+                self.enable = bits::merge32(self.enable, mask, bits);
+                self.latch = latch_disabled(self.latch, mask, bits);
+                self
+            }
+            Cell::Entry(i) => {
+                let new = routes::written(routes, i, mask, bits);
+                self.routes = new;
+                self
+            }
+        }
+    }
+
+    // The node after a change that is not plain, before it settles.
+    pub fn changed(mut self, change: Change) -> Node
+        ensures { λ r. ⌜ r ≡ changedOf self change ⌝ }
+    {
+        match change {
+            Change::Modes(value) => {
+                self.edge = (value % 0x1_0000_0000) as u32;
+                self
+            }
+            Change::Nothing => self,
+        }
+    }
+
+    // The node after an input change, before it settles.
+    pub fn input(mut self, source: u64, level: bool) -> Node
+        ensures { λ r. ⌜ r ≡ inputOf self source level ⌝ }
+    {
+        self.level = (bits::put(self.level as u64, source, level) % 0x1_0000_0000) as u32;
+        self
+    }
+
+    // What follows from a change: the edge-latch rule, from the choices and drives before it to those after it.
+    pub fn settled(mut self, edge: u32, before: u32, after: u32) -> Node
+        ensures { λ r. ⌜ r ≡ settledOf self edge before after ⌝ }
+    {
+        self.latch = latched32(edge, self.edge, before, after, self.latch);
+        self
+    }
+}

@@ -1,0 +1,90 @@
+// Table 8-6: the route bytes of the node's 32 sources: read, written, the sources routed to a core, the lines that routes name.
+ghost use mathlib.Core.Path.{_≡_};
+ghost use lib.ListN.{getD, set};
+ghost use Rattle.bits.specs.Bits.{merge};
+ghost use Rattle.routes.specs.Routes.{linesOf, routeRead, routedOf, writtenOf};
+ghost use Rattle.routes.specs.Private.{reachedOf};
+
+fn route(routes: [u8; 32], source: u64) -> u8
+    ensures { λ r. ⌜ r ≡ getD routes source 0 ⌝ }
+{
+    if source < 32 {
+        routes[source as usize]
+    } else {
+        0
+    }
+}
+
+fn put_route(mut routes: [u8; 32], source: u64, v: u8) -> [u8; 32]
+    ensures { λ r. ⌜ r ≡ set routes source v ⌝ }
+{
+    if source < 32 {
+        routes[source as usize] = v;
+    }
+    routes
+}
+
+// Bits 3..2 name cores that the model lacks.
+fn held(byte: u8) -> u64
+    ensures { λ r. ⌜ r ≡ routeRead byte ⌝ }
+{
+    (byte & 0xf3) as u64
+}
+
+fn route_merge(old: u8, mask: u64, value: u64) -> u8
+    ensures { λ r. ⌜ r ≡ merge 8 old mask value ⌝ }
+{
+    (bits::merge(old as u64, mask, value) % 256) as u8
+}
+
+// What Entry reads as.
+pub fn read(routes: [u8; 32], source: u64) -> u64
+    ensures { λ r. ⌜ r ≡ routeRead (getD routes source 0) ⌝ }
+{
+    held(route(routes, source))
+}
+
+// The routes after the bits in mask of one of them took values.
+pub fn written(routes: [u8; 32], source: u64, mask: u64, value: u64) -> [u8; 32]
+    ensures { λ r. ⌜ r ≡ writtenOf routes source mask value ⌝ }
+{
+    put_route(
+        routes,
+        source,
+        route_merge(route(routes, source), mask, value),
+    )
+}
+
+// The sources in `which` that are routed to a core. Only their routes are looked at.
+pub fn routed(routes: [u8; 32], which: u32, core: u64) -> u32
+    ensures { λ r. ⌜ r ≡ routedOf routes which core ⌝ }
+{
+    let mut w = which;
+    let mut r: u32 = 0;
+    while w != 0 {
+        let i = lanes::lowest32(w);
+        r |= (bits::test(routes[i as usize] as u64, core) as u32) << i;
+        w = lanes::clear_lowest32(w);
+    }
+    r
+}
+
+// The lines that a route names: its pins at the place of core 0, of core 1, or of both.
+fn reached(route: u8) -> u8
+    ensures { λ r. ⌜ r ≡ reachedOf route ⌝ }
+{
+    route / 16 * (route % 2 + route / 2 % 2 * 16)
+}
+
+// The lines that the routes of the sources in `which` name, core c and pin p as bit 4 * c + p. Only those routes are looked at.
+pub fn lines(routes: [u8; 32], which: u32) -> u8
+    ensures { λ r. ⌜ r ≡ linesOf routes which ⌝ }
+{
+    let mut w = which;
+    let mut r: u8 = 0;
+    while w != 0 {
+        r |= reached(routes[lanes::lowest32(w) as usize]);
+        w = lanes::clear_lowest32(w);
+    }
+    r
+}

@@ -1,0 +1,15 @@
+use mathlib.Core.Path.{_∙_}
+use Rattle.tree.proofs.Settle.{acted-by}
+use borrow.Author.Needs.{needs}
+use Rattle.tree.proofs.Tree.acted.Statement.{statement}
+use Rattle.tree.proofs.Tree.acted.Tie as tie
+
+pub acted-spec : {M : Type 1} → statement M
+acted-spec =
+    tie.close
+    (tie.spec
+    (λ c κs. search needs)  -- watched-requires
+    (λ c κs. search needs)  -- moved-requires
+    (λ c κs. search needs)  -- settled-requires
+    (λ c. c .settled .ensures ∙ rw (c .before .moved .ensures, c .before .before .watched .ensures) (acted-by _ _))  -- returns
+    )
