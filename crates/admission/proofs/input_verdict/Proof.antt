@@ -1,5 +1,6 @@
 use Rattle.admission.specs.Refusals.{inputRefusals}
-use Rattle.bits.proofs.Tests.{tests}
+use native.Mathlib.Omega.{arith}
+use borrow.Author.Tests.{le-ltb, lt-ltb}
 use Rattle.admission.proofs.input_verdict.Statement.{statement}
 use Rattle.admission.proofs.input_verdict.Tie as tie
 
@@ -8,6 +9,6 @@ unfolding inputRefusals
 input-verdict-spec =
     tie.close
     (tie.spec
-    (λ c. search (tests, c .if1 .taken))  -- returns
-    (λ c. search (tests, c .if1 .left))  -- returns-2
+    (λ c. rw (lt-ltb 63 (c .before .args .source) (omega (arith, c .if1 .taken))))  -- returns
+    (λ c. rw (le-ltb 63 (c .before .args .source) (omega (arith, c .if1 .left))))  -- returns-2
     )
