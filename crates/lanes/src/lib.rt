@@ -1,41 +1,25 @@
 // Bytes: byte masks, one bit of many bytes, the bits that some of many bytes have.
 ghost use mathlib.Core.Path.{_≡_};
 ghost use mathlib.Core.Bool.{false};
-ghost use Prim.Native.Nat.{_/_};
 ghost use Rattle.bits.specs.Bits as words;
 ghost use Rattle.lanes.specs.Bytes as bytes;
 
-// For each byte mask, the word with 0xff at the bytes that are kept.
-const KEPT: [u64; 16] = [
-    0x0000_0000,
-    0x0000_00ff,
-    0x0000_ff00,
-    0x0000_ffff,
-    0x00ff_0000,
-    0x00ff_00ff,
-    0x00ff_ff00,
-    0x00ff_ffff,
-    0xff00_0000,
-    0xff00_00ff,
-    0xff00_ff00,
-    0xff00_ffff,
-    0xffff_0000,
-    0xffff_00ff,
-    0xffff_ff00,
-    0xffff_ffff,
-];
+// A byte that is kept: none of its bits is written.
+const KEEP: u64 = 0x00;
 
-fn kept_bytes(mask: u64) -> u64
-    ensures { λ r. ⌜ r ≡ words.word 32 (λ i. words.bit mask (i / 8)) ⌝ }
-{
-    KEPT[(mask % 16) as usize]
-}
+// A byte that is replaced: all of them are.
+const REPLACE: u64 = 0xff;
 
-// The four bytes that a byte mask lets through. Mask bits from 4 on are not looked at.
+// The four bytes that a byte mask lets through: mask bit j set keeps byte j, else it is replaced. Mask bits from 4 on are not looked at.
 pub fn written_bytes(mask: u64) -> u64
     ensures { λ r. ⌜ r ≡ bytes.writtenBytes 4 mask ⌝ }
 {
-    kept_bytes(mask) ^ 0xffff_ffff
+    let mut written: u64 = 0;
+    for j in 0..4 {
+        let byte = if bits::test(mask, j) { KEEP } else { REPLACE };
+        written |= byte << (8 * j);
+    }
+    written
 }
 
 // Bit i of the result is bit k of byte i.
