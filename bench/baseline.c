@@ -84,11 +84,10 @@ static void device_reset(struct device *d)
     uint64_t level = d->bridge.level;
     uint32_t node_level = d->node.level;
 
-    memset(d, 0, sizeof *d);
+    memset(d, 0, sizeof *d); // closes the second window too
     d->bridge.mask = UINT64_MAX;
     d->bridge.level = level;
     d->node.level = node_level;
-    d->second_open = true;
 }
 
 // Messages. Offsets are those of core 0.
@@ -756,6 +755,15 @@ static uint64_t run(const uint64_t rows[64][7], uint64_t n)
     return state_folded(sum, &d);
 }
 
+// Whether the first step of a mix opens the second window, as mix.rt says.
+static bool opens_first(const uint64_t rows[64][7])
+{
+    uint64_t x = drawn(SEED);
+    struct step s = step_of(rows[x >> 58], x);
+
+    return s.kind == WINDOW_SWITCH && s.value != 0;
+}
+
 int main(int argc, char **argv)
 {
     static const struct { const char *name; const uint64_t (*rows)[7]; } mixes[4] = {
@@ -766,6 +774,10 @@ int main(int argc, char **argv)
     for (int i = 0; i < 4; i++) {
         if (argc > 2 && strcmp(argv[2], mixes[i].name) != 0)
             continue;
+        if (!opens_first(mixes[i].rows)) {
+            fprintf(stderr, "%s: the first step does not open the second window\n", mixes[i].name);
+            return 1;
+        }
         printf("%s %llu checksum 0x%016llx\n", mixes[i].name, (unsigned long long)n, (unsigned long long)run(mixes[i].rows, n));
 #ifdef COUNTS
         counts_print(n);

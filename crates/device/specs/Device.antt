@@ -1,7 +1,7 @@
--- The device and its lines (01, "The cells" and "The four lines"; request Q-2).
+-- The device and its lines (01, "The cells" and "The four lines"; requests Q-2 and Q-4).
 --   freshOf, resetOf   the fresh state and the reset values     answeredOf   an outcome beside the lines
 use Prim.Native.Nat.{ℕ}
-use mathlib.Core.Bool.{Bool, true, cond}
+use mathlib.Core.Bool.{Bool, false, cond}
 use lib.Dec.{eqb}
 use lib.ListN.{replicate}
 use Rattle.cores.specs.declared.Core.{Core}
@@ -21,16 +21,20 @@ freshCore = record { status = 0; enable = 0; mail = replicate 4 0 }
 abbrev masks : ℕ
 masks = 0xffffffffffffffff
 
--- everything else 0; second window open
-unfoldable pub startOf : Tree → Device
-startOf t = record { core0 = freshCore; core1 = freshCore; tree = t; «second_open» = true }
+-- second window closed (request Q-4)
+abbrev secondOpen : Bool
+secondOpen = false
+
+-- everything else 0
+unfoldable pub startOf : Tree → Bool → Device
+startOf t opened = record { core0 = freshCore; core1 = freshCore; tree = t; «second_open» = opened }
 
 abbrev pub freshOf : Device
-freshOf = startOf (tree.freshOf masks)
+freshOf = startOf (tree.freshOf masks) secondOpen
 
 -- a reset restores all of it but the input levels, which are outside wires
 unfoldable pub resetOf : Device → Device
-resetOf d = startOf (tree.resetOf masks (d .tree))
+resetOf d = startOf (tree.resetOf masks (d .tree)) secondOpen
 
 -- ---- parts of the device
 

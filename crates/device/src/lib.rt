@@ -56,27 +56,27 @@ fn class_of(plan: Plan) -> Class
 }
 
 impl Device {
-    // The reset values that are not 0.
+    // The reset values that are named; all others are 0.
     pub const MASKS: u64 = 0xffff_ffff_ffff_ffff;
 
-    pub const SECOND_OPEN: bool = true;
+    pub const SECOND_OPEN: bool = false;
 
     pub fn fresh() -> Device
         ensures { λ r. ⌜ r ≡ freshOf ⌝ }
     {
-        Device::start(Tree::fresh(Device::MASKS))
+        Device::start(Tree::fresh(Device::MASKS), Device::SECOND_OPEN)
     }
 
     fn reset(self) -> Device
         ensures { λ r. ⌜ r ≡ resetOf self ⌝ }
     {
         let tree = self.tree;
-        Device::start(tree.reset(Device::MASKS))
+        Device::start(tree.reset(Device::MASKS), Device::SECOND_OPEN)
     }
 
-    // The reset values beside a tree.
-    fn start(tree: Tree) -> Device
-        ensures { λ r. ⌜ r ≡ startOf tree ⌝ }
+    // The cells of both cores as they start, beside a tree and the window switch.
+    fn start(tree: Tree, opened: bool) -> Device
+        ensures { λ r. ⌜ r ≡ startOf tree opened ⌝ }
     {
         Device {
             core0: Core {
@@ -90,7 +90,7 @@ impl Device {
                 mail: [0; 4],
             },
             tree: tree,
-            second_open: Device::SECOND_OPEN,
+            second_open: opened,
         }
     }
 

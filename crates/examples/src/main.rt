@@ -50,7 +50,7 @@ fn example_5(run: Run) -> Run {
         .refuses_write(0x3ff01040, 4, 0x00010005, 2) // 5b
         .refuses_read(0x3ff00420, 8, 2) // 5c
         .refuses_write(0x3ff00420, 8, GATE, 2) // 5c
-        .fresh()
+        .after(window(true))
         .refuses_read(0x3ff00420, 8, 2) // 5d
         .refuses_write(0x3ff00420, 8, GATE, 2) // 5d
 }

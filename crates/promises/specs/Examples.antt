@@ -1,5 +1,5 @@
--- The examples of 01 that are marked with a star ("Examples on each side"), as one table: the steps from the fresh device, the answers,
--- and the device at the end.
+-- The examples of 01 that are marked with a star ("Examples on each side"; request Q-4), as one table: the steps from the fresh device, the
+-- answers, and the device at the end.
 --   shown   an answer as 01 prints it     runOf   the answers of a run and its end     examples   the table     AsPrinted   the claim
 use Prim.Native.Nat.{ℕ}
 use mathlib.Core.Bool.{Bool, true, false}
@@ -57,9 +57,12 @@ pub record Example : Type 0 where
 abbrev example : List Step → List Shown → Device → Example
 example s a d = record { steps = s; answers = a; end = d }
 
--- accepted, all lines low; refused, all lines low
+-- accepted, all lines low; accepted, core 1's line high; refused, all lines low
 abbrev ok : ℕ → Shown
 ok v = record { refusal = 0; value = v; ipi0 = false; ipi1 = false; bridge0 = false; bridge1 = false; pins = 0 }
+
+abbrev line1 : Shown
+line1 = record { refusal = 0; value = 0; ipi0 = false; ipi1 = true; bridge0 = false; bridge1 = false; pins = 0 }
 
 abbrev refused : ℕ → Shown
 refused n = record { refusal = n; value = 0; ipi0 = false; ipi1 = false; bridge0 = false; bridge1 = false; pins = 0 }
@@ -86,16 +89,16 @@ unfoldable pub examples : List Example
 examples =
     -- 1
     example (BusRead 0x1fe01000 4 ∷ []) (ok 0 ∷ []) freshOf
-    -- 2
+    -- 2, with a window switch before its third step (Q-4)
     ∷ example (PrivateWrite 0 0x1040 4 0x00010005 ∷ []) (ok 0 ∷ []) (withCore1 freshOf (cells 0x20 0))
     ∷ example
     (PrivateWrite 0 0x1040 4 0x00010005 ∷ BusWrite 0x1fe01104 4 0x20 ∷ [])
-    (ok 0 ∷ record { refusal = 0; value = 0; ipi0 = false; ipi1 = true; bridge0 = false; bridge1 = false; pins = 0 } ∷ [])
+    (ok 0 ∷ line1 ∷ [])
     (withCore1 freshOf (cells 0x20 0x20))
     ∷ example
-    (PrivateWrite 0 0x1040 4 0x00010005 ∷ BusWrite 0x1fe01104 4 0x20 ∷ BusWrite 0x3ff0110c 4 0x20 ∷ [])
-    (ok 0 ∷ record { refusal = 0; value = 0; ipi0 = false; ipi1 = true; bridge0 = false; bridge1 = false; pins = 0 } ∷ ok 0 ∷ [])
-    (withCore1 freshOf (cells 0 0x20))
+    (PrivateWrite 0 0x1040 4 0x00010005 ∷ BusWrite 0x1fe01104 4 0x20 ∷ Window true ∷ BusWrite 0x3ff0110c 4 0x20 ∷ [])
+    (ok 0 ∷ line1 ∷ line1 ∷ ok 0 ∷ [])
+    (withOpen (withCore1 freshOf (cells 0 0x20)) true)
     -- 3
     ∷ example
     (PrivateWrite 0 0x1048 8 0xaabbccdd4001001c ∷ BusRead 0x1fe0113c 4 ∷ [])
@@ -103,8 +106,8 @@ examples =
     (withCore1 freshOf (mail 3 0x00bbccdd00000000))
     -- 4
     ∷ example (PrivateWrite 0 0x1048 8 0xaabbccdd78010000 ∷ []) (ok 0 ∷ []) freshOf
-    -- 5
-    ∷ example (Window false ∷ BusRead 0x3ff01000 4 ∷ []) (ok 0 ∷ refused 3 ∷ []) (withOpen freshOf false)
+    -- 5: the window is closed already (Q-4), so the switch changes nothing
+    ∷ example (Window false ∷ BusRead 0x3ff01000 4 ∷ []) (ok 0 ∷ refused 3 ∷ []) freshOf
     -- 6
     ∷ example (PrivateWrite 0 0x1040 4 0x00020005 ∷ []) (refused 1 ∷ []) freshOf
     -- 8
