@@ -21,13 +21,13 @@ freshCore = record { status = 0; enable = 0; mail = replicate 4 0 }
 abbrev masks : ℕ
 masks = 0xffffffffffffffff
 
--- second window closed (request Q-4)
-abbrev secondOpen : Bool
-secondOpen = false
-
 -- everything else 0
 unfoldable pub startOf : Tree → Bool → Device
 startOf t opened = record { core0 = freshCore; core1 = freshCore; tree = t; «second_open» = opened }
+
+-- second window closed (request Q-4; 01 has it open)
+abbrev secondOpen : Bool
+secondOpen = false
 
 abbrev pub freshOf : Device
 freshOf = startOf (tree.freshOf masks) secondOpen
