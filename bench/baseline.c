@@ -45,14 +45,15 @@ struct device {
 
 // Steps and answers.
 
-enum kind { BUS_READ, BUS_WRITE, PRIVATE_READ, PRIVATE_WRITE, BRIDGE_READ, BRIDGE_WRITE, INPUT, WINDOW_SWITCH, RESET, NODE_INPUT };
+enum kind { BUS_READ, BUS_WRITE, PRIVATE_READ, PRIVATE_WRITE, BRIDGE_READ, BRIDGE_WRITE, INPUT, WINDOW_SWITCH, RESET, NODE_INPUT, WHICH };
 
-enum refusal { ACCEPTED, NO_CORE, NO_REGISTER, CLOSED, BAD_WIDTH, NO_RIGHT, BAD_VALUE, NO_SOURCE, BAD_DISTRIBUTION };
+enum refusal { ACCEPTED, NO_CORE, NO_REGISTER, CLOSED, BAD_WIDTH, NO_RIGHT, BAD_VALUE, NO_SOURCE, BAD_DISTRIBUTION,
+               NONE_IN_SERVICE };
 
 struct step {
     enum kind kind;
     uint64_t unit;   // the issuing core, or the register of the bridge
-    uint64_t place;  // the address, the offset or the source
+    uint64_t place;  // the address, the offset, the source or the output
     uint64_t width;
     uint64_t value;  // of an input, its level; of the window switch, whether it opens
 };
@@ -241,6 +242,20 @@ static uint64_t bridge_in_service(const struct bridge *b, unsigned k)
         if (b->routes[__builtin_ctzll(p)] >> k & 1)
             word |= p & -p;
     return word;
+}
+
+// The lowest source that shows in INTISR_CHIPk.
+static enum refusal bridge_which(const struct bridge *b, unsigned k, uint64_t *value)
+{
+    for (uint64_t p = bridge_pending(b); p != 0; p &= p - 1) {
+        unsigned source = __builtin_ctzll(p);
+
+        if (b->routes[source] >> k & 1) {
+            *value = source;
+            return ACCEPTED;
+        }
+    }
+    return NONE_IN_SERVICE;
 }
 
 // The outputs that some pending source is routed to, a bit for each.
@@ -600,6 +615,8 @@ static enum refusal act(struct device *d, const struct step *s, uint64_t *value)
         return input_change(&d->bridge, s->place, s->value);
     case NODE_INPUT:
         return node_input(&d->node, s->place, s->value);
+    case WHICH:
+        return bridge_which(&d->bridge, s->place, value);
     case WINDOW_SWITCH:
         d->second_open = s->value;
         return ACCEPTED;
@@ -697,7 +714,7 @@ static uint64_t state_folded(uint64_t sum, const struct device *d)
 
 #ifdef COUNTS
 // What a mix does to the device, for gcc -DCOUNTS: totals over the steps of a run.
-static uint64_t refused[9], lines[12], opened, pending, visited, enabled, requested;
+static uint64_t refused[10], lines[12], opened, pending, visited, enabled, requested;
 
 static void count(const struct device *d, const struct answer *a)
 {
@@ -721,7 +738,7 @@ static void count(const struct device *d, const struct answer *a)
 static void counts_print(double n)
 {
     printf("  refused %.4f:", 1 - refused[0] / n);
-    for (int i = 1; i < 9; i++)
+    for (int i = 1; i < 10; i++)
         printf(" %d %.4f", i, refused[i] / n);
     printf("\n  lines high %.3f %.3f %.3f %.3f, gate open %.3f, sources pending %.2f, routes looked at %.2f\n", lines[0] / n,
            lines[1] / n, lines[2] / n, lines[3] / n, opened / n, pending / n, visited / n);

@@ -1,10 +1,10 @@
--- The refusals (01, "Refusal numbers"): the number of each, and lists of tests of which the first that applies is given.
---   refusalNumber   01's number     Check, _when_   a refusal and its test     firstOf   the first of a list that applies
+-- The refusals (01, "Refusal numbers"; request Q-5): the number of each, and lists of tests of which the first that applies is given.
+--   refusalNumber   the number     Check, _when_   a refusal and its test     firstOf   the first of a list that applies
 use Prim.Native.Nat.{ℕ}
 use mathlib.Core.Bool.{Bool, cond}
 use mathlib.Core.List.{List, [], _∷_}
 use Rattle.access.specs.declared.Refusal.{Refusal}
-use Rattle.access.specs.declared.Refusal.the-variants.{Core, Register, Window, Width, Right, Value, Source, Distribution}
+use Rattle.access.specs.declared.Refusal.the-variants.{Core, Register, Window, Width, Right, Value, Source, Distribution, NoneInService}
 use Rattle.access.specs.declared.Verdict.{Verdict}
 use Rattle.access.specs.declared.Verdict.the-variants.{Accepted, Refused}
 
@@ -17,6 +17,7 @@ refusalNumber Right = 5  -- read of a write-only register, or write of a read-on
 refusalNumber Value = 6  -- a written value doesn't fit the width, or a route value is above 255
 refusalNumber Source = 7  -- source number above 63; of a node input change, not one of 2 to 31 (Q-2)
 refusalNumber Distribution = 8  -- a nonzero word written to AUTO_CTRL0 or AUTO_CTRL1
+refusalNumber NoneInService = 9  -- no source has its bit set in the INTISR_CHIP word that is searched (Q-5)
 
 -- a refusal, and the test that says whether it applies
 pub record Check : Type 0 where

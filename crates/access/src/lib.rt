@@ -3,7 +3,7 @@ ghost use mathlib.Core.Path.{_≡_};
 ghost use Rattle.access.specs.Refusal.{firstOf, refusalNumber};
 ghost use Rattle.access.specs.Access.{accessRefusals, fitting, listed, permitted};
 
-// Why a step is refused, in the order of 01's numbers.
+// Why a step is refused, in the order of the numbers.
 pub enum Refusal {
     Core,
     Register,
@@ -13,6 +13,7 @@ pub enum Refusal {
     Value,
     Source,
     Distribution,
+    NoneInService,
 }
 
 pub enum Verdict {
@@ -39,7 +40,7 @@ pub struct Access {
     pub widths: Widths,
 }
 
-// 01's number of a refusal.
+// The number of a refusal.
 pub fn refusal_number(refusal: Refusal) -> u64
     ensures { λ r. ⌜ r ≡ refusalNumber refusal ⌝ }
 {
@@ -52,6 +53,7 @@ pub fn refusal_number(refusal: Refusal) -> u64
         Refusal::Value => 6,
         Refusal::Source => 7,
         Refusal::Distribution => 8,
+        Refusal::NoneInService => 9,
     }
 }
 

@@ -1,4 +1,4 @@
--- What a step answers (01, "Kinds of step" and "Refusal numbers"; request Q-2): 01's number and read data of each outcome, and the lines as
+-- What a step answers (01, "Kinds of step" and "Refusal numbers"; request Q-2): the number and the read data of each outcome, and the lines as
 -- one word.
 --   outcomeNumber   the refusal number     outcomeData   the read data
 --   firstFour       the four lines of 01   linesWord     the twelve lines, the first as bit 0
@@ -13,7 +13,7 @@ use Rattle.access.specs.Refusal.{refusalNumber}
 use Rattle.answers.specs.declared.Outcome.{Outcome}
 use Rattle.answers.specs.declared.Outcome.the-variants.{Value, Refused}
 
--- 01's number of a refusal, and 0 where the step was accepted
+-- the number of a refusal, and 0 where the step was accepted
 unfoldable pub outcomeNumber : Outcome → ℕ
 outcomeNumber (Value v) = 0
 outcomeNumber (Refused reason) = refusalNumber reason

@@ -20,7 +20,7 @@ pub struct Answer {
 }
 
 impl Outcome {
-    // 01's number of the refusal, and 0 where the step was accepted.
+    // The number of the refusal, and 0 where the step was accepted.
     pub fn number(self) -> u64
         ensures { λ r. ⌜ r ≡ outcomeNumber self ⌝ }
     {

@@ -1,7 +1,7 @@
 -- The bridge registers by name (01, "Bridge registers"; table 8-2 of the manual), in 01's order.
 --   registerAt   by number, in 01's order                    rowOf         rights, and what a write may hold
 --   sized        a written value fits the register           distributed   it holds no distribution but the fixed one
---   writtenOf    what a write does
+--   writtenOf    what a write does                           inServiceAt   the words of the sources in service
 use Prim.Native.Nat.{ℕ, _^_}
 use mathlib.Core.Bool.{Bool, true}
 use mathlib.Core.List.{List, [], _∷_}
@@ -11,6 +11,8 @@ use Rattle.access.specs.declared.Rights.the-variants.{Read, Write, Both}
 use Rattle.access.specs.Table as table
 use Rattle.bridge.specs.declared.Register.{Register}
 use Rattle.bridge.specs.declared.Register.the-variants.{IntMask, MsiEn, IntEdge, SoftInt, AutoCtrl0, AutoCtrl1, IntClr, IntIsrChip0, IntIsrChip1, IntIrr, RouteEntry}
+use Rattle.bridge.specs.declared.Chip.{Chip}
+use Rattle.bridge.specs.declared.Chip.the-variants.{Chip0, Chip1}
 use Rattle.bridge.specs.declared.Holds.{Holds}
 use Rattle.bridge.specs.declared.Holds.the-variants.{Word, Zero, Byte}
 use Rattle.bridge.specs.declared.Row.{Row}
@@ -82,3 +84,8 @@ writtenOf IntIsrChip0 value = Changed Nothing  -- read only, as are the two belo
 writtenOf IntIsrChip1 value = Changed Nothing
 writtenOf IntIrr value = Changed Nothing
 writtenOf (RouteEntry source) value = plain (Route source) 3 value  -- bits 7..2 are ignored
+
+-- INTISR_CHIP0 or INTISR_CHIP1, whichever is asked for (request Q-5)
+abbrev pub inServiceAt : Chip → Register
+inServiceAt Chip0 = IntIsrChip0
+inServiceAt Chip1 = IntIsrChip1

@@ -18,6 +18,12 @@ pub enum Register {
     RouteEntry(u64),
 }
 
+// The two words of the sources in service, INTISR_CHIP0 and INTISR_CHIP1, of which a search asks for one.
+pub enum Chip {
+    Chip0,
+    Chip1,
+}
+
 // What a written value may be.
 pub enum Holds {
     Word,

@@ -19,7 +19,7 @@ use Rattle.steps.specs.Decide.{decideOf}
 unfoldable pub outcomeOf : Device → Plan → Outcome
 outcomeOf d (Refuse reason) = Refused reason
 outcomeOf d (ReadCore register core width) = Value (cores.readOf (coreOf d core) register width)
-outcomeOf d (ReadTree read) = Value (tree.readOf (d .tree) read)
+outcomeOf d (ReadTree read) = tree.readOf (d .tree) read  -- a search that finds no source is refused, with 9 (request Q-5)
 outcomeOf d (WriteCore effect core) = Value 0
 outcomeOf d (WriteTree write) = Value 0
 outcomeOf d (ChangeTree change) = Value 0

@@ -135,7 +135,7 @@ impl Device {
             }
             Plan::ReadTree(read) => {
                 let tree = self.tree;
-                Outcome::Value(tree.read(read))
+                tree.read(read)
             }
             Plan::WriteCore { effect: _, core: _ } => Outcome::Value(0),
             Plan::WriteTree(_) => Outcome::Value(0),

@@ -1,4 +1,5 @@
 // A step of each kind from its numbers, so that an example takes a line a step.
+use bridge::Chip;
 use bridge::Register;
 use steps::Step;
 
@@ -57,6 +58,10 @@ pub(crate) fn node_input(source: u64, level: bool) -> Step {
         source: source,
         level: level,
     }
+}
+
+pub(crate) fn which(chip: Chip) -> Step {
+    Step::Which { chip: chip }
 }
 
 pub(crate) fn window(opened: bool) -> Step {

@@ -1,5 +1,5 @@
 // Runs the examples of 01 ("Examples on each side") that the proved table leaves, and says of each whether the device does what 01 says, or the request
-// that changed it (11: Q-1). Then come facts of section 8.2, by the readings of Q-2.
+// that changed it (11: Q-1). Then come facts of section 8.2, by the readings of Q-2, and searches (Q-5).
 // The parts of an example are lettered in 01's order; those that are missing are in the table, crates/promises/specs/Examples.antt. 8a to 8f,
 // 9b and 12b are there too, and so is 12c with other mail sends: they are run here again.
 mod cells;
@@ -9,6 +9,7 @@ mod names;
 mod run;
 mod show;
 
+use bridge::Chip;
 use bridge::Register;
 use kinds::bridge_read;
 use kinds::bridge_write;
@@ -18,6 +19,7 @@ use kinds::input;
 use kinds::node_input;
 use kinds::private_read;
 use kinds::private_write;
+use kinds::which;
 use kinds::window;
 use run::Run;
 
@@ -219,6 +221,23 @@ fn node_sources(run: Run) -> Run {
         .refuses(node_input(32, true), 7)
 }
 
+// The lowest source in service at an output, the gate closed; on a fresh device there is none.
+fn which_source(run: Run) -> Run {
+    run.fresh()
+        .refuses(which(Chip::Chip0), 9)
+        .after(bridge_write(Register::IntMask, 0))
+        .after(bridge_write(Register::RouteEntry(63), 3))
+        .after(bridge_write(Register::RouteEntry(8), 1))
+        .after(bridge_write(Register::RouteEntry(0), 1))
+        .after(input(63, true))
+        .reads(which(Chip::Chip0), 63)
+        .after(input(8, true))
+        .reads(which(Chip::Chip0), 8)
+        .after(input(0, true))
+        .reads(which(Chip::Chip0), 0)
+        .reads(which(Chip::Chip1), 63)
+}
+
 fn main() {
     let run = Run::start();
     let run = example_5(run);
@@ -237,5 +256,6 @@ fn main() {
     let run = node_level(run);
     let run = node_edge(run);
     let run = node_sources(run);
+    let run = which_source(run);
     run.show_totals();
 }

@@ -119,6 +119,11 @@ fn show_third(n: u64) {
 8.2 node input 2 high
 8.2 node input 31 high
 8.2 node input 32 high
+Q-5 which source in INTISR_CHIP0, fresh device
+Q-5 source 63 high, routed to both
+Q-5 source 8 too, routed to INTn0
+Q-5 source 0 too, routed to INTn0
+Q-5 which source in INTISR_CHIP1
 ",
         n,
     );

@@ -23,7 +23,7 @@ enum Expected {
     SameReads,
 }
 
-// What a step did: its answer by 01's numbers, and whether the cells, or all that can be read of them, are as before.
+// What a step did: its answer as numbers, and whether the cells, or all that can be read of them, are as before.
 struct Got {
     refusal: u64,
     value: u64,

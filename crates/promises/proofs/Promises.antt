@@ -1,27 +1,33 @@
 -- The promises of specs/Promises hold of the definition that `step` equals.
-use Prim.Native.Nat.{ℕ, _+_, _*_, _/_, _%_, _<_, _≤_}
+use Prim.Native.Nat.{ℕ, _+_, _*_, _/_, _%_, _^_, _<_, _≤_}
 use mathlib.Core.Path.{_≡_, refl, sym, ap, _∙_}
 use mathlib.Core.Logic.{_↔_}
 use mathlib.Core.Bool.{Bool, true, false, cond, not, _&&_, true≢false}
 use native.Mathlib.Omega.{arith}
 use lib.Dec.{eqb}
-use borrow.Author.Tests.{not-true}
-use Rattle.bits.specs.Bits.{bit}
+use borrow.Table.Steps.{cases}
+use borrow.Author.Tests.{eqb-false, eqb-true, not-false, not-true}
+use Rattle.bits.specs.Bits.{bit, first, some}
 use Rattle.bits.specs.Latch.{cleared, latched, risen}
-use Rattle.bits.proofs.Some.{some-at, some-of}
+use Rattle.bits.proofs.Some.{some-at, some-bit, some-of}
 use Rattle.bits.proofs.Taut.{taut}
-use Rattle.bits.proofs.Words.{bit-word}
+use Rattle.bits.proofs.Words.{bit-word, word-lt}
+use Rattle.lanes.proofs.LowestBit.{first-set}
+use Rattle.search.proofs.First.{first-below}
 use Rattle.access.specs.declared.Refusal.{Refusal}
 use Rattle.access.specs.declared.Refusal.the-variants as refusal
 use Rattle.access.specs.declared.Verdict.{Verdict}
 use Rattle.access.specs.declared.Verdict.the-variants as verdict
+use Rattle.access.specs.Access.{permitted}
 use Rattle.access.specs.Refusal.{firstOf, refusalNumber}
 use Rattle.admission.specs.Refusals.{bridgeRefusals, inputRefusals, nodeInputRefusals}
 use Rattle.cores.specs.declared.Core.{Core}
 use Rattle.cores.specs.Core as cores
+use Rattle.bridge.specs.declared.Chip.{Chip}
+use Rattle.bridge.specs.declared.Chip.the-variants.{Chip0, Chip1}
 use Rattle.bridge.specs.declared.Written.{Written}
 use Rattle.bridge.specs.declared.Written.the-variants.{Plain, Changed}
-use Rattle.bridge.specs.Registers.{writtenOf}
+use Rattle.bridge.specs.Registers.{distributed, inServiceAt, rowOf, sized, writtenOf}
 use Rattle.sources.specs.declared.Bridge.{Bridge}
 use Rattle.sources.specs.Sources as sources
 use Rattle.pins.specs.declared.Node.{Node}
@@ -34,20 +40,21 @@ use Rattle.tree.specs.declared.Change.the-variants as change
 use Rattle.tree.specs.Tree as tree
 use Rattle.device.specs.declared.Device.{Device}
 use Rattle.answers.specs.declared.Outcome.the-variants.{Value, Refused}
+use Rattle.steps.specs.declared.Step.the-variants.{BridgeRead}
 use Rattle.steps.specs.declared.Plan.{Plan}
 use Rattle.steps.specs.declared.Plan.the-variants.{Refuse, ReadCore, WriteCore, ReadTree, WriteTree, ChangeTree, Window, Reset}
 use Rattle.device.specs.Device.{answeredOf, resetOf, startOf, withCore0, withCore1}
 use Rattle.steps.specs.Decide.{bridgePlan, decideOf, inputPlan, nodeInputPlan, planned, writtenPlan}
 use Rattle.answers.specs.Answers.{outcomeData, outcomeNumber}
 use Rattle.device.specs.Step.{nextOf, outcomeOf, stepOf}
-use Rattle.promises.specs.Promises.{BesideBridge, BesideNode, BridgeLines, BridgeSteps, Cause, IpiLines, Left, NodeInputs, Passed, PinLines, RefusedSteps, Routed, Separation, Settles, Vector}
+use Rattle.promises.specs.Promises.{BesideBridge, BesideNode, BridgeLines, BridgeSteps, Cause, IpiLines, Left, NodeInputs, Passed, PinLines, RefusedSteps, Routed, Searched, Separation, Settles, Vector, WhichSource}
 
 -- ---- refused steps
 
 accepted : {A : Type 0} (v : ℕ) (reason : Refusal) → Value v ≡ Refused reason → A
 accepted v reason e = let z : _≡_ {A = ℕ} 0 1 = cc in absurd (omega arith)
 
--- only a plan to refuse answers with a refusal
+-- only a plan that changes nothing answers with a refusal
 refused-plan : (d : Device) (p : Plan) (reason : Refusal) → outcomeOf d p ≡ Refused reason → nextOf d p ≡ d
 unfolding outcomeOf nextOf
 refused-plan d (Refuse f) reason e = refl
@@ -59,7 +66,7 @@ refused-plan d (ChangeTree change) reason e = accepted 0 reason e
 refused-plan d (Window on) reason e = accepted 0 reason e
 refused-plan d Reset reason e = accepted 0 reason e
 
-numbered : (reason : Refusal) → (1 ≤ refusalNumber reason) × (refusalNumber reason ≤ 8)
+numbered : (reason : Refusal) → (1 ≤ refusalNumber reason) × (refusalNumber reason ≤ 9)
 unfolding refusalNumber
 numbered refusal.Core = (omega arith, omega arith)
 numbered refusal.Register = (omega arith, omega arith)
@@ -69,6 +76,7 @@ numbered refusal.Right = (omega arith, omega arith)
 numbered refusal.Value = (omega arith, omega arith)
 numbered refusal.Source = (omega arith, omega arith)
 numbered refusal.Distribution = (omega arith, omega arith)
+numbered refusal.NoneInService = (omega arith, omega arith)
 
 pub refused-steps : RefusedSteps
 unfolding stepOf answeredOf outcomeData outcomeNumber
@@ -77,7 +85,7 @@ refused-steps d s reason e =
     let q : nextOf d p ≡ d = refused-plan d p reason e in
     record {
       from-1 = rw e (numbered reason .0);
-      to-8 = rw e (numbered reason .1);
+      to-9 = rw e (numbered reason .1);
       device = q;
       nothing-read = rw e;
       lines = ap (λ (x : Device). answeredOf x (outcomeOf d p) .answer) q;
@@ -145,6 +153,40 @@ pin-bit t c p h l =
 pub pin-lines : PinLines
 unfolding stepOf answeredOf
 pin-lines d s c p h l = let t = stepOf d s .device .tree in rw (pin-bit t c p h l) (routed t c p)
+
+-- ---- which source is it?
+
+-- a read of INTISR_CHIP0 or INTISR_CHIP1 is accepted, and gives a word of 64 bits
+reads : (d : Device) (chip : Chip)
+    → stepOf d (BridgeRead (inServiceAt chip)) .answer .outcome ≡ Value (sources.readOf (d .tree .bridge) (inServiceAt chip))
+unfolding stepOf answeredOf decideOf bridgePlan bridgeRefusals rowOf permitted sized distributed outcomeOf tree.readOf
+reads d Chip0 = refl
+reads d Chip1 = refl
+
+reads-lt : (b : Bridge) (chip : Chip) → sources.readOf b (inServiceAt chip) < 2 ^ 64
+unfolding sources.readOf sources.inServiceWord
+reads-lt b Chip0 = word-lt 64 _
+reads-lt b Chip1 = word-lt 64 _
+
+-- the outcome of a search in a word
+search-in : (w : ℕ) → w < 2 ^ 64 → Searched w (cond (some 64 (bit w)) (Value (first 64 (bit w))) (Refused refusal.NoneInService))
+unfolding outcomeNumber outcomeData refusalNumber
+search-in w h =
+    cases
+    (some 64 (bit w))
+    (λ t.
+    let p : (w ≡ 0 → ⊥) = eqb-false w 0 (not-true _ (some-bit 64 h ∙ t)) in
+    let f = first-set 64 h p in
+    rw t ((λ e. absurd (omega arith), λ z. absurd (p z)), λ n. (refl, record { there = f .0; set = f .1; no-lower = first-below 64 (bit w) })))
+    (λ u.
+    let z : w ≡ 0 = eqb-true w 0 (not-false _ (some-bit 64 h ∙ u)) in
+    rw u ((λ e. z, λ e. refl), λ n. absurd (n z)))
+
+pub which-source : WhichSource
+unfolding stepOf answeredOf decideOf outcomeOf tree.readOf sources.whichOf
+which-source d chip =
+    let w = sources.readOf (d .tree .bridge) (inServiceAt chip)
+    in (w, reads d chip, search-in w (reads-lt (d .tree .bridge) chip))
 
 -- ---- separation
 

@@ -1,6 +1,7 @@
 -- What holds of every device and every step, stated; the proofs are in proofs/Promises.
 --   RefusedSteps     a refused step has its number and changes nothing (demand 1)
 --   IpiLines, BridgeLines, PinLines   a line is high exactly if an enabled, pending cause is routed to it (demand 2)
+--   WhichSource      a search is refused exactly if INTISR_CHIPk reads 0, and else gives its lowest source (request Q-5)
 --   Separation       a step leaves the parts of the device that its plan does not name; BridgeSteps, NodeInputs, the same by the kind of step
 use Prim.Native.Nat.{ℕ, _+_, _*_, _<_, _≤_}
 use mathlib.Core.Path.{_≡_}
@@ -11,7 +12,9 @@ use lib.ListN.{getD}
 use Rattle.bits.specs.Bits.{bit}
 use Rattle.access.specs.declared.Refusal.{Refusal}
 use Rattle.cores.specs.declared.Core.{Core}
+use Rattle.bridge.specs.declared.Chip.{Chip}
 use Rattle.bridge.specs.declared.Register.{Register}
+use Rattle.bridge.specs.Registers.{inServiceAt}
 use Rattle.sources.specs.declared.Bridge.{Bridge}
 use Rattle.sources.specs.Sources.{requestAt}
 use Rattle.routes.specs.Routes.{toCore, toPin}
@@ -23,9 +26,10 @@ use Rattle.tree.specs.declared.Write.the-variants as write
 use Rattle.tree.specs.declared.Change.the-variants as change
 use Rattle.tree.specs.Tree.{linesOf}
 use Rattle.device.specs.declared.Device.{Device}
-use Rattle.answers.specs.declared.Outcome.the-variants.{Refused}
+use Rattle.answers.specs.declared.Outcome.{Outcome}
+use Rattle.answers.specs.declared.Outcome.the-variants.{Value, Refused}
 use Rattle.steps.specs.declared.Step.{Step}
-use Rattle.steps.specs.declared.Step.the-variants.{BridgeWrite, Input, NodeInput}
+use Rattle.steps.specs.declared.Step.the-variants.{BridgeRead, BridgeWrite, Input, NodeInput, Which}
 use Rattle.steps.specs.declared.Plan.{Plan}
 use Rattle.steps.specs.declared.Plan.the-variants.{Refuse, ReadCore, WriteCore, ReadTree, WriteTree, ChangeTree, Window, Reset}
 use Rattle.device.specs.Device.{answeredOf}
@@ -35,10 +39,10 @@ use Rattle.device.specs.Step.{stepOf}
 
 -- ---- refused steps
 
--- the number is one of 1 to 8, the device is as it was, the read data are 0, and the lines are those of the device as it was
+-- the number is one of 1 to 9, the device is as it was, the read data are 0, and the lines are those of the device as it was
 pub record Unchanged (d : Device) (s : Step) : Type 0 where
   pub from-1 : 1 ≤ outcomeNumber (stepOf d s .answer .outcome)
-  pub to-8 : outcomeNumber (stepOf d s .answer .outcome) ≤ 8
+  pub to-9 : outcomeNumber (stepOf d s .answer .outcome) ≤ 9
   pub device : stepOf d s .device ≡ d
   pub nothing-read : outcomeData (stepOf d s .answer .outcome) ≡ 0
   pub lines : stepOf d s .answer ≡ answeredOf d (stepOf d s .answer .outcome) .answer
@@ -94,6 +98,25 @@ abbrev pub PinLines : Type 0
 PinLines =
     (d : Device) (s : Step) (c p : ℕ) → c < 2 → p < 4
     → (bit (stepOf d s .answer .pins) (4 * c + p) ≡ true) ↔ Routed (stepOf d s .device .tree) c p
+
+-- ---- which source is it? (request Q-5)
+
+-- a source whose bit is set in a word, and no lower one's is
+pub record Lowest (w source : ℕ) : Type 0 where
+  pub there : source < 64
+  pub set : bit w source ≡ true
+  pub no-lower : (i : ℕ) → i < source → bit w i ≡ false
+
+-- refused, with 9, exactly if the word is 0; else accepted, with the lowest source there as the value
+abbrev pub Searched : ℕ → Outcome → Type 0
+Searched w outcome =
+    (outcomeNumber outcome ≡ 9 ↔ w ≡ 0) × ((w ≡ 0 → ⊥) → (outcomeNumber outcome ≡ 0) × Lowest w (outcomeData outcome))
+
+-- INTISR_CHIP0 or INTISR_CHIP1 reads as a word, and the search goes by that word
+abbrev pub WhichSource : Type 0
+WhichSource =
+    (d : Device) (chip : Chip)
+    → (w : ℕ) × (stepOf d (BridgeRead (inServiceAt chip)) .answer .outcome ≡ Value w) × Searched w (stepOf d (Which chip) .answer .outcome)
 
 -- ---- separation
 

@@ -36,7 +36,7 @@ treeGiven (write.Gate written on) = cond written (Bits Gate 1 (digit on)) Nothin
 treeGiven (write.Node e) = Bits (Node (e .cell)) (e .mask) (e .bits)
 
 -- A refused write may stand in a list, and gives no bit a value. Reads, changes that are not plain (an accepted write to SOFT_INT, INTEDGE,
--- INTCLR, AUTO_CTRL or the node's Intedge, an input change of either kind), the window switch and a reset are not in such lists.
+-- INTCLR, AUTO_CTRL or the node's Intedge, an input change of either kind), searches, the window switch and a reset are not in such lists.
 unfoldable pub givenOf : Plan → Given
 givenOf (Refuse reason) = Nothing
 givenOf (WriteCore e core) = Bits (ofCore core (e .cell)) (e .mask) (e .bits)
@@ -73,6 +73,7 @@ isWrite (step.PrivateRead c o w) = false
 isWrite (step.BridgeRead r) = false
 isWrite (step.Input i l) = false
 isWrite (step.NodeInput i l) = false
+isWrite (step.Which chip) = false
 isWrite (step.Window on) = false
 isWrite step.Reset = false
 

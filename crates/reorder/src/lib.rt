@@ -214,6 +214,7 @@ fn is_write(step: Step) -> bool
             source: _,
             level: _,
         } => false,
+        Step::Which { chip: _ } => false,
         Step::Window { open: _ } => false,
         Step::Reset => false,
     }

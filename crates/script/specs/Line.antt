@@ -2,15 +2,21 @@
 -- where words are counted from 0: a register's name counts by its number in 01's order.
 --   forms   the step of each form, in the order of the script's table     lineStep   the step of a line     lineSteps   those of a block's lines
 use Prim.Native.Nat.{ℕ}
-use mathlib.Core.Bool.{true, false, not}
+use mathlib.Core.Bool.{true, false, cond, not}
 use mathlib.Core.List.{List, [], _∷_, map}
 use lib.Dec.{eqb}
 use lib.ListN.{getD, take}
 use Rattle.access.specs.Table.{Row, lookup, row}
+use Rattle.bridge.specs.declared.Chip.{Chip}
+use Rattle.bridge.specs.declared.Chip.the-variants.{Chip0, Chip1}
 use Rattle.bridge.specs.declared.Register.the-variants.{RouteEntry}
 use Rattle.bridge.specs.Registers.{registerAt}
 use Rattle.steps.specs.declared.Step.{Step}
-use Rattle.steps.specs.declared.Step.the-variants.{BusRead, BusWrite, PrivateRead, PrivateWrite, BridgeRead, BridgeWrite, Input, NodeInput, Window, Reset}
+use Rattle.steps.specs.declared.Step.the-variants.{BusRead, BusWrite, PrivateRead, PrivateWrite, BridgeRead, BridgeWrite, Input, NodeInput, Which, Window, Reset}
+
+-- 0 is INTISR_CHIP0, any other number INTISR_CHIP1
+abbrev pub chipAt : ℕ → Chip
+chipAt n = cond (eqb n 0) Chip0 Chip1
 
 -- `at i` is the number at word i
 unfoldable pub forms : (ℕ → ℕ) → List (Row Step)
@@ -25,11 +31,12 @@ forms at =
     ∷ row 7 (BridgeWrite (RouteEntry (at 3)) (at 4))  -- bridge write ROUTE_ENTRY SOURCE VALUE
     ∷ row 8 (Input (at 1) (not (eqb (at 2) 0)))  -- input SOURCE LEVEL
     ∷ row 9 (NodeInput (at 2) (not (eqb (at 3) 0)))  -- node input SOURCE LEVEL
-    ∷ row 10 (Window true)  -- window open
-    ∷ row 11 (Window false)  -- window closed
+    ∷ row 10 (Which (chipAt (at 1)))  -- which CHIP
+    ∷ row 11 (Window true)  -- window open
+    ∷ row 12 (Window false)  -- window closed
     ∷ []
 
--- form 12, and any other number, is `reset`
+-- form 13, and any other number, is `reset`
 unfoldable pub lineStep : List ℕ → Step
 lineStep v = lookup Reset (forms (λ i. getD v i 0)) (getD v 0 0)
 

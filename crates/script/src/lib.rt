@@ -3,8 +3,9 @@ ghost use mathlib.Core.Path.{_≡_};
 ghost use mathlib.Core.List.{[]};
 ghost use Prim.Native.Nat.{_+_, _<_, _≤_};
 ghost use lib.ListN.{drop, getD, length};
-ghost use Rattle.script.specs.Line.{lineStep, lineSteps};
+ghost use Rattle.script.specs.Line.{chipAt, lineStep, lineSteps};
 ghost use Rattle.script.specs.Block.{BlockRule, clashCount, clashesWith, counted};
+use bridge::Chip;
 use bridge::Register;
 use clashes::Clash;
 use device::Device;
@@ -33,11 +34,13 @@ pub const INPUT: u64 = 8;
 
 pub const NODE_INPUT: u64 = 9;
 
-pub const WINDOW_OPEN: u64 = 10;
+pub const WHICH: u64 = 10;
 
-pub const WINDOW_CLOSED: u64 = 11;
+pub const WINDOW_OPEN: u64 = 11;
 
-pub const RESET: u64 = 12;
+pub const WINDOW_CLOSED: u64 = 12;
+
+pub const RESET: u64 = 13;
 
 fn bridge_read(register: Register) -> Step
     ensures { λ r. ⌜ r ≡ Step.BridgeRead register ⌝ }
@@ -49,6 +52,15 @@ fn bridge_write(register: Register, value: u64) -> Step
     ensures { λ r. ⌜ r ≡ Step.BridgeWrite register value ⌝ }
 {
     Step::BridgeWrite { register, value }
+}
+
+fn which(chip: u64) -> Step
+    ensures { λ r. ⌜ r ≡ Step.Which (chipAt chip) ⌝ }
+{
+    if chip == 0 {
+        return Step::Which { chip: Chip::Chip0 };
+    }
+    Step::Which { chip: Chip::Chip1 }
 }
 
 // The step of a line from its values: the number of its form, then the number at each word's place.
@@ -88,6 +100,7 @@ pub fn step_of(v: [u64; 7]) -> Step
             source: v[2],
             level: v[3] != 0,
         },
+        WHICH => which(v[1]),
         WINDOW_OPEN => Step::Window { open: true },
         WINDOW_CLOSED => Step::Window { open: false },
         _ => Step::Reset,

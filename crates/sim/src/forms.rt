@@ -9,38 +9,39 @@ use script::CORE_READ;
 use script::INPUT;
 use script::NODE_INPUT;
 use script::RESET;
+use script::WHICH;
 use script::WINDOW_OPEN;
 use text::put;
 use text::same;
 
-pub(crate) const EXPECT_VALUE: u64 = 13;
+pub(crate) const EXPECT_VALUE: u64 = 14;
 
-pub(crate) const EXPECT_REFUSED: u64 = 14;
+pub(crate) const EXPECT_REFUSED: u64 = 15;
 
-pub(crate) const EXPECT_LINES: u64 = 15;
+pub(crate) const EXPECT_LINES: u64 = 16;
 
-pub(crate) const REORDER_BEGIN: u64 = 16;
+pub(crate) const REORDER_BEGIN: u64 = 17;
 
-pub(crate) const REORDER_END: u64 = 17;
+pub(crate) const REORDER_END: u64 = 18;
 
 // Open: any form, and those whose first word is known, or two of them.
-pub(crate) const ANY: u64 = 18;
+pub(crate) const ANY: u64 = 19;
 
-const BUS: u64 = 19;
+const BUS: u64 = 20;
 
-const CORE: u64 = 20;
+const CORE: u64 = 21;
 
-const BRIDGE: u64 = 21;
+const BRIDGE: u64 = 22;
 
-const REGISTER: u64 = 22;
+const REGISTER: u64 = 23;
 
-const NODE: u64 = 23;
+const NODE: u64 = 24;
 
-const WINDOW: u64 = 24;
+const WINDOW: u64 = 25;
 
-const REORDER: u64 = 25;
+const REORDER: u64 = 26;
 
-pub(crate) const BLANK: u64 = 26;
+pub(crate) const BLANK: u64 = 27;
 
 // Puts the text of a form.
 pub(crate) fn put_form(out: &mut [u8], at: usize, form: u64) -> usize {
@@ -55,6 +56,7 @@ bridge read ROUTE_ENTRY SOURCE
 bridge write ROUTE_ENTRY SOURCE VALUE
 input SOURCE LEVEL, where LEVEL is 0 or 1
 node input SOURCE LEVEL, where LEVEL is 0 or 1
+which CHIP, where CHIP is 0 or 1
 window open
 window closed
 reset
@@ -63,7 +65,7 @@ expect refused N
 expect lines BITS, where BITS is four or twelve flags, each 0 or 1
 reorder begin
 reorder end
-bus, core, bridge, input, node, window, reset, expect or reorder
+bus, core, bridge, input, node, which, window, reset, expect or reorder
 bus read or bus write
 core C read or core C write
 bridge read or bridge write
@@ -122,7 +124,7 @@ fn node_form(second: &[u8]) -> u64 {
 // The form that a line begins with its first three words, of which the third may name a register.
 pub(crate) fn form_of(first: &[u8], second: &[u8], third: &[u8], register: u64) -> u64 {
     match find(
-        b"bus core bridge input node window reset expect reorder",
+        b"bus core bridge input node which window reset expect reorder",
         first,
     ) {
         0 => either(second, b"read write", BUS_READ, BUS),
@@ -130,10 +132,11 @@ pub(crate) fn form_of(first: &[u8], second: &[u8], third: &[u8], register: u64) 
         2 => bridge_form(either(second, b"read write", BRIDGE_READ, BRIDGE), register),
         3 => INPUT,
         4 => node_form(second),
-        5 => either(second, b"open closed", WINDOW_OPEN, WINDOW),
-        6 => RESET,
-        7 => either(second, b"refused lines", EXPECT_REFUSED, EXPECT_VALUE),
-        8 => either(second, b"begin end", REORDER_BEGIN, REORDER),
+        5 => WHICH,
+        6 => either(second, b"open closed", WINDOW_OPEN, WINDOW),
+        7 => RESET,
+        8 => either(second, b"refused lines", EXPECT_REFUSED, EXPECT_VALUE),
+        9 => either(second, b"begin end", REORDER_BEGIN, REORDER),
         _ => ANY,
     }
 }

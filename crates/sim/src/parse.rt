@@ -4,10 +4,10 @@ use crate::forms::BLANK;
 use crate::forms::form_of;
 use crate::forms::register_named;
 use crate::lines::flags;
-use crate::print::LEVEL;
 use crate::print::LINES;
 use crate::print::MALFORMED;
 use crate::print::MISSING;
+use crate::print::NO_BIT;
 use crate::print::NONE;
 use crate::print::TOO_LARGE;
 use crate::print::TOO_LONG;
@@ -49,11 +49,11 @@ fn number(word: &[u8]) -> Value {
     }
 }
 
-fn level(value: Value) -> Value {
+fn bit(value: Value) -> Value {
     if value.value < 2 {
         return value;
     }
-    wrong(LEVEL)
+    wrong(NO_BIT)
 }
 
 fn lines(flags: u64) -> Value {
@@ -63,11 +63,11 @@ fn lines(flags: u64) -> Value {
     right(flags)
 }
 
-// The value of a word of a kind: n a number, l a level, f flags; a fixed word has the value that is held for its place.
+// The value of a word of a kind: n a number, b a number that is 0 or 1, f flags; a fixed word has the value that is held for its place.
 fn value_of(kind: u8, word: &[u8], held: u64) -> Value {
     match kind {
         b'n' => number(word),
-        b'l' => level(number(word)),
+        b'b' => bit(number(word)),
         b'f' => lines(flags(word)),
         _ => right(held),
     }
@@ -145,8 +145,9 @@ www
 wwwn
 wwwn
 wwwnn
-wnl
-wwnl
+wnb
+wwnb
+wb
 ww
 ww
 w

@@ -82,7 +82,7 @@ pub(crate) const MALFORMED: u64 = 13;
 
 pub(crate) const TOO_LARGE: u64 = 14;
 
-pub(crate) const LEVEL: u64 = 15;
+pub(crate) const NO_BIT: u64 = 15;
 
 pub(crate) const LINES: u64 = 16;
 
@@ -241,7 +241,7 @@ error *: cannot be read
 # error \"*\" was not expected, expected: @
 # error \"*\" is not a number, expected: @
 # error \"*\" is above 2^64 - 1, expected: @
-# error \"*\" is not a level, expected: @
+# error \"*\" is neither 0 nor 1, expected: @
 # error \"*\" is not four or twelve flags, expected: @
 # error expectation before the first step
 # error expectation after a line in error, expected: a step first

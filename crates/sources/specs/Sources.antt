@@ -2,13 +2,18 @@
 -- byte i of the routes belong to source i.
 --   drive       its input or its soft bit            pendingAt   a request that is neither masked nor sent as a message
 --   requestAt   what INTIRR shows                    inService   what INTISR_CHIPk shows        lineOf   some source is in service
---   readOf      what a register reads as
+--   readOf      what a register reads as             whichOf     the lowest-numbered source in service (request Q-5)
 use Prim.Native.Nat.{ℕ}
 use mathlib.Core.Bool.{Bool, cond, not, _&&_, _||_}
 use lib.ListN.{getD}
-use Rattle.bits.specs.Bits.{bit, word, some}
+use Rattle.bits.specs.Bits.{bit, word, some, first}
 use Rattle.bridge.specs.declared.Register.{Register}
 use Rattle.bridge.specs.declared.Register.the-variants.{IntMask, MsiEn, IntEdge, SoftInt, AutoCtrl0, AutoCtrl1, IntClr, IntIsrChip0, IntIsrChip1, IntIrr, RouteEntry}
+use Rattle.bridge.specs.declared.Chip.{Chip}
+use Rattle.bridge.specs.Registers.{inServiceAt}
+use Rattle.answers.specs.declared.Outcome.{Outcome}
+use Rattle.answers.specs.declared.Outcome.the-variants.{Value, Refused}
+use Rattle.access.specs.declared.Refusal.the-variants.{NoneInService}
 use Rattle.sources.specs.declared.Bridge.{Bridge}
 
 -- drive of a source = input level or soft bit
@@ -59,3 +64,12 @@ readOf b IntIsrChip0 = inServiceWord b 0
 readOf b IntIsrChip1 = inServiceWord b 1
 readOf b IntIrr = requestWord b
 readOf b (RouteEntry source) = word 2 (bit (getD (b .routes) source 0))  -- bits 7..2 read 0
+
+-- ---- which source is it? (request Q-5)
+
+-- the lowest-numbered source with its bit set in INTISR_CHIP0 or INTISR_CHIP1, whichever is asked for, by a reading of all 64; refused, with 9,
+-- exactly if no source has its bit set
+unfoldable pub whichOf : Bridge → Chip → Outcome
+whichOf b chip =
+    let set = bit (readOf b (inServiceAt chip)) in
+    cond (some 64 set) (Value (first 64 set)) (Refused NoneInService)

@@ -1,12 +1,17 @@
-// Section 8.1: the 64 sources of the bridge: drive, request, in service, and the two outputs.
+// Section 8.1: the 64 sources of the bridge: drive, request, in service, which of them it is, and the two outputs.
 ghost use mathlib.Core.Path.{_≡_};
-ghost use mathlib.Core.Bool.{not, _&&_, _||_};
+ghost use mathlib.Core.Bool.{cond, not, _&&_, _||_};
+ghost use lib.Dec.{eqb};
 ghost use lib.ListN.{getD, set};
 ghost use Rattle.bits.specs.Bits.{bit, merge, word};
-ghost use Rattle.sources.specs.Sources.{driveWord, inServiceWord, linesOf, pendingAt, readOf, requestWord};
+ghost use Rattle.bridge.specs.Registers.{inServiceAt};
+ghost use Rattle.sources.specs.Sources.{driveWord, inServiceWord, linesOf, pendingAt, readOf, requestWord, whichOf};
 ghost use Rattle.sources.specs.Changes.{appliedOf, changedOf, inputOf, levelledOf, movedOf, settledOf};
+use access::Refusal;
+use answers::Outcome;
 use bridge::Cell;
 use bridge::Change;
+use bridge::Chip;
 use bridge::Effect;
 use bridge::Register;
 
@@ -72,6 +77,16 @@ fn both(a: u64, b: u64) -> u64
     a & b
 }
 
+// What a search answers, by the number that it found: 64 where there is none.
+fn found(source: u64) -> Outcome
+    ensures { λ r. ⌜ r ≡ cond (not (eqb source 64)) (Outcome.Value source) (Outcome.Refused Refusal.NoneInService) ⌝ }
+{
+    if source == 64 {
+        return Outcome::Refused(Refusal::NoneInService);
+    }
+    Outcome::Value(source)
+}
+
 impl Bridge {
     // The input or the soft bit.
     fn drive(self) -> u64
@@ -127,6 +142,23 @@ impl Bridge {
             Register::IntIrr => self.requests(),
             Register::RouteEntry(source) => route_read(route(routes, source)),
         }
+    }
+
+    // INTISR_CHIP0 or INTISR_CHIP1.
+    fn in_service_at(self, chip: Chip) -> u64
+        ensures { λ r. ⌜ r ≡ readOf self (inServiceAt chip) ⌝ }
+    {
+        match chip {
+            Chip::Chip0 => self.in_service(0),
+            Chip::Chip1 => self.in_service(1),
+        }
+    }
+
+    // The lowest-numbered source in INTISR_CHIP0 or INTISR_CHIP1; refused where there is none.
+    pub fn which(self, chip: Chip) -> Outcome
+        ensures { λ r. ⌜ r ≡ whichOf self chip ⌝ }
+    {
+        found(search::lowest(self.in_service_at(chip)))
     }
 
     // The bridge after an effect of a plain write.

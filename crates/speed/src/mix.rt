@@ -8,15 +8,16 @@
 //     [kind, unit, place, spread, width, and, or]
 //
 //     kind   0 bus read, 1 bus write, 2 private read, 3 private write, 4 bridge read, 5 bridge write, 6 input change, 7 window switch, 8 reset,
-//            9 node input change
+//            9 node input change, 10 which source
 //     unit   the core of a private access; the register of a bridge access, 0 INT_MASK to 10 ROUTE_ENTRY in the order of 01
-//     place  the address, the offset or the source is place | (x >> 32 & spread)
+//     place  the address, the offset, the source, or of kind 10 the number of INTISR_CHIP0 or INTISR_CHIP1, is place | (x >> 32 & spread)
 //     width  of a bus or private access
 //     value  ((x ^ x << 32) & and) | or: what is written; an input is driven high and the window opens where it is not 0.
 //            Kind 8 is a reset where it is 0, and opens the window elsewhere, so that resets are rare and the window is
 //            soon open again
 //
-// 4 rows of 64 are refused; in MESSAGES 3 are, and the second window, closed an eighth of the time, makes up the fourth.
+// 4 rows of 64 are refused; in MESSAGES 3 are, and the second window, closed an eighth of the time, makes up the fourth. A search finds no
+// source, and is refused, in a third of the cases in SPARSE and hardly ever in DENSE.
 // Counted over ten million steps (gcc -DCOUNTS): the gate is open for 0.87 of the steps of SPARSE and DENSE; pending are 2.2 sources in
 // SPARSE and 32.9 in DENSE, of which a walk that ends once both lines are high looks at 1.5 and 16. In TREE the gate is open as long, 1.9
 // sources of the bridge are pending, 6.3 of the node are enabled and 2.9 of those request; each pin is high for half of the steps.
@@ -149,6 +150,7 @@ pub(crate) const SPARSE_LAST: [[u64; 7]; 32] = [
     [4, 4, 0, 0, 0, 0, 0], // AUTO_CTRL0
     [4, 7, 0, 0, 0, 0, 0], // INTISR_CHIP0
     [4, 8, 0, 0, 0, 0, 0], // INTISR_CHIP1
+    [10, 0, 0, 1, 0, 0, 0], // which source, in INTISR_CHIP0 or INTISR_CHIP1
     [4, 9, 0, 0, 0, 0, 0], // INTIRR
     [4, 10, 0, 0x3f, 0, 0, 0], // ROUTE_ENTRY
     // Bridge writes.
@@ -162,7 +164,6 @@ pub(crate) const SPARSE_LAST: [[u64; 7]; 32] = [
     [5, 10, 0, 0x3f, 0, 0xff, 0], // ROUTE_ENTRY
     [5, 10, 0, 0x3f, 0, 0xff, 0], // ROUTE_ENTRY
     // Any input, high or low.
-    [6, 0, 0, 0x3f, 0, 1, 0],
     [6, 0, 0, 0x3f, 0, 1, 0],
     [6, 0, 0, 0x3f, 0, 1, 0],
     [6, 0, 0, 0x3f, 0, 1, 0],
@@ -189,6 +190,7 @@ pub(crate) const DENSE_LAST: [[u64; 7]; 32] = [
     [4, 4, 0, 0, 0, 0, 0], // AUTO_CTRL0
     [4, 7, 0, 0, 0, 0, 0], // INTISR_CHIP0
     [4, 8, 0, 0, 0, 0, 0], // INTISR_CHIP1
+    [10, 0, 0, 1, 0, 0, 0], // which source, in INTISR_CHIP0 or INTISR_CHIP1
     [4, 9, 0, 0, 0, 0, 0], // INTIRR
     [4, 10, 0, 0x3f, 0, 0, 0], // ROUTE_ENTRY
     // Bridge writes. Sources below 32 are routed to INTn0 or to none, so that INTn1 is not found at once.
@@ -202,7 +204,6 @@ pub(crate) const DENSE_LAST: [[u64; 7]; 32] = [
     [5, 10, 0, 0x1f, 0, 0xfd, 0], // ROUTE_ENTRY
     [5, 10, 0x20, 0x1f, 0, 0xff, 0], // ROUTE_ENTRY
     // Any input, high or low.
-    [6, 0, 0, 0x3f, 0, 1, 0],
     [6, 0, 0, 0x3f, 0, 1, 0],
     [6, 0, 0, 0x3f, 0, 1, 0],
     [6, 0, 0, 0x3f, 0, 1, 0],

@@ -1,7 +1,7 @@
--- What a step does, from the step and the window switch alone (01, "Kinds of step" and "Refusal numbers"): the first refusal that
--- applies, or a plan.
+-- What a step does, from the step and the window switch alone (01, "Kinds of step" and "Refusal numbers"): the first of 1 to 8
+-- that applies, or a plan.
 --   readPlan, writePlan, accessPlan                     what an accepted bus or private access does
---   windowPlan, bridgePlan, inputPlan, nodeInputPlan    what becomes of each kind of step
+--   windowPlan, bridgePlan, inputPlan, nodeInputPlan, whichPlan    what becomes of each kind of step
 --   decideOf                                            the plan of a step
 use Prim.Native.Nat.{ℕ}
 use mathlib.Core.Bool.{Bool, true, false, cond}
@@ -17,6 +17,7 @@ use Rattle.windows.specs.Table.{address, busAddress}
 use Rattle.admission.specs.declared.Admission.{Admission}
 use Rattle.admission.specs.declared.Admission.the-variants.{Refused, At}
 use Rattle.admission.specs.Refusals.{admissionOf, bridgeRefusals, inputRefusals, nodeInputRefusals}
+use Rattle.bridge.specs.declared.Chip.{Chip}
 use Rattle.bridge.specs.declared.Register.{Register}
 use Rattle.bridge.specs.declared.Written.{Written}
 use Rattle.bridge.specs.declared.Written.the-variants.{Plain, Changed}
@@ -67,7 +68,7 @@ windowPlan opened a width write value = admittedPlan (admissionOf a opened width
 abbrev pub privateAddress : ℕ → ℕ → Address
 privateAddress core offset = address (Private core) offset
 
--- ---- bridge accesses and input changes
+-- ---- bridge accesses, input changes, searches
 
 -- a verdict, and the plan where it is no refusal
 abbrev pub planned : Verdict → Plan → Plan
@@ -89,6 +90,10 @@ inputPlan source level = planned (firstOf (inputRefusals source)) (ChangeTree (c
 unfoldable pub nodeInputPlan : ℕ → Bool → Plan
 nodeInputPlan source level = planned (firstOf (nodeInputRefusals source)) (ChangeTree (change.NodeInput level source))
 
+-- request Q-5: 9 depends on the device, so it is given with the outcome
+abbrev pub whichPlan : Chip → Plan
+whichPlan chip = ReadTree (read.Which chip)
+
 -- ---- every kind of step
 
 unfoldable pub decideOf : Bool → Step → Plan
@@ -100,5 +105,6 @@ decideOf opened (step.BridgeRead register) = bridgePlan register false 0
 decideOf opened (step.BridgeWrite register value) = bridgePlan register true value
 decideOf opened (step.Input source level) = inputPlan source level
 decideOf opened (step.NodeInput source level) = nodeInputPlan source level
+decideOf opened (step.Which chip) = whichPlan chip
 decideOf opened (step.Window on) = Window on  -- never refused, as is a reset
 decideOf opened step.Reset = Reset

@@ -9,13 +9,14 @@ use Rattle.steps.specs.declared.Request.{Request}
 use Rattle.steps.specs.declared.Request.the-variants as request
 use Rattle.steps.specs.declared.Judged.{Judged}
 use Rattle.steps.specs.declared.Judged.the-variants as judged
-use Rattle.steps.specs.Decide.{admittedPlan, bridgePlan, inputPlan, nodeInputPlan, windowPlan}
+use Rattle.steps.specs.Decide.{admittedPlan, bridgePlan, inputPlan, nodeInputPlan, whichPlan, windowPlan}
 
 unfoldable pub requestPlan : Bool → Request → Plan
 requestPlan opened (request.Access address width write value) = windowPlan opened address width write value
 requestPlan opened (request.Bridge register write value) = bridgePlan register write value
 requestPlan opened (request.Input source level) = inputPlan source level
 requestPlan opened (request.NodeInput source level) = nodeInputPlan source level
+requestPlan opened (request.Which chip) = whichPlan chip
 requestPlan opened (request.Window on) = plan.Window on
 requestPlan opened request.Reset = plan.Reset
 
@@ -24,5 +25,6 @@ judgedPlan (judged.Access admission width write value) = admittedPlan admission 
 judgedPlan (judged.Bridge register write value) = bridgePlan register write value
 judgedPlan (judged.Input source level) = inputPlan source level
 judgedPlan (judged.NodeInput source level) = nodeInputPlan source level
+judgedPlan (judged.Which chip) = whichPlan chip
 judgedPlan (judged.Window on) = plan.Window on
 judgedPlan judged.Reset = plan.Reset

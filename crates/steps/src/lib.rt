@@ -7,6 +7,7 @@ ghost use Rattle.steps.specs.Private.{judgedPlan, requestPlan};
 use access::Refusal;
 use access::Verdict;
 use admission::Admission;
+use bridge::Chip;
 use bridge::Written;
 use tree::Change;
 use tree::Read;
@@ -51,6 +52,9 @@ pub enum Step {
     NodeInput {
         source: u64,
         level: bool,
+    },
+    Which {
+        chip: Chip,
     },
     Window {
         open: bool,
@@ -100,6 +104,9 @@ enum Request {
         source: u64,
         level: bool,
     },
+    Which {
+        chip: Chip,
+    },
     Window {
         open: bool,
     },
@@ -126,6 +133,9 @@ enum Judged {
     NodeInput {
         source: u64,
         level: bool,
+    },
+    Which {
+        chip: Chip,
     },
     Window {
         open: bool,
@@ -312,6 +322,7 @@ fn requested(step: Step) -> Request
             source: source,
             level: level,
         },
+        Step::Which { chip } => Request::Which { chip: chip },
         Step::Window { open } => Request::Window { open: open },
         Step::Reset => Request::Reset,
     }
@@ -355,6 +366,7 @@ fn judge(request: Request, opened: bool) -> Judged
             source: source,
             level: level,
         },
+        Request::Which { chip } => Judged::Which { chip: chip },
         Request::Window { open } => Judged::Window { open: open },
         Request::Reset => Judged::Reset,
     }
@@ -378,6 +390,7 @@ pub fn decide(step: Step, second_open: bool) -> Plan
         } => bridge_plan(register, write, value),
         Judged::Input { source, level } => input_plan(source, level),
         Judged::NodeInput { source, level } => node_input_plan(source, level),
+        Judged::Which { chip } => Plan::ReadTree(Read::Which(chip)),
         Judged::Window { open } => Plan::Window(open),
         Judged::Reset => Plan::Reset,
     }

@@ -2,7 +2,7 @@
 -- gate behind it, and the node.
 --   freshOf, resetOf   the fresh state and the reset values, with the masks as given
 --   bridgeLine, linesOf   the bridge's lines at the node     pinLine, pinsOf   the lines to the cores' pins
---   readOf      what is read             gateRead     the gate as it is read
+--   readOf      what a read answers      gateRead     the gate as it is read
 --   writtenOf   a plain write            gateWritten  what a write to the gate's word does
 --   changedOf   any other change
 --   settledOf   what follows from them: the node's latches     actedOf   the tree after a step: moved, and settled
@@ -11,6 +11,8 @@ use mathlib.Core.Bool.{Bool, true, false, cond, _&&_}
 use lib.Dec.{eqb}
 use lib.ListN.{replicate}
 use Rattle.bits.specs.Bits.{bit, word}
+use Rattle.answers.specs.declared.Outcome.{Outcome}
+use Rattle.answers.specs.declared.Outcome.the-variants.{Value}
 use Rattle.sources.specs.declared.Bridge.{Bridge}
 use Rattle.sources.specs.Sources as sources
 use Rattle.sources.specs.Changes as changes
@@ -70,10 +72,12 @@ gateRead gate weight = cond gate weight 0
 abbrev pub gateWeight : Bool → ℕ → ℕ
 gateWeight high width = cond high (2 ^ 16) (cond (eqb width 8) (2 ^ 48) 0)
 
-unfoldable pub readOf : Tree → Read → ℕ
-readOf t (read.Bridge register) = sources.readOf (t .bridge) register
-readOf t (read.Gate high width) = gateRead (t .gate) (gateWeight high width)
-readOf t (read.Node register) = pins.readOf (t .node) (linesOf t) register
+-- a read is accepted, but for a search (request Q-5), which is refused where it finds no source; the gate plays no part in that
+unfoldable pub readOf : Tree → Read → Outcome
+readOf t (read.Bridge register) = Value (sources.readOf (t .bridge) register)
+readOf t (read.Gate high width) = Value (gateRead (t .gate) (gateWeight high width))
+readOf t (read.Node register) = Value (pins.readOf (t .node) (linesOf t) register)
+readOf t (read.Which chip) = sources.whichOf (t .bridge) chip
 
 -- ---- plain writes
 

@@ -2,8 +2,11 @@
 // field, and a case to each of the three enums.
 ghost use mathlib.Core.Path.{_≡_};
 ghost use Rattle.pins.specs.Changes as nodes;
+ghost use Rattle.sources.specs.Sources.{whichOf};
 ghost use Rattle.tree.specs.Tree.{actedOf, changedOf, freshOf, gateRead, gateWeight, gateWritten, linesOf, movedOf, readOf, resetOf, withBridge, withGate, withLevels, withNode, writtenOf};
 ghost use Rattle.tree.specs.Private.{watchedOf};
+use answers::Outcome;
+use bridge::Chip;
 use pins::Node;
 use sources::Bridge;
 
@@ -13,11 +16,12 @@ pub struct Tree {
     pub node: Node,
 }
 
-// What is read: a register of the bridge or of the node, or the gate in its word or in the high half of that.
+// What is read: a register of the bridge or of the node, the gate in its word or in the high half of that, or which source of the bridge it is.
 pub enum Read {
     Bridge(bridge::Register),
     Gate { high: bool, width: u64 },
     Node(node::Register),
+    Which(Chip),
 }
 
 // What a plain write does: bits of a cell of the bridge or of the node take values, or the gate does where the write reaches it.
@@ -115,15 +119,27 @@ impl Tree {
         Tree::with_levels(mask, b.level, n.level)
     }
 
-    pub fn read(self, read: Read) -> u64
+    // The gate plays no part.
+    fn which(self, chip: Chip) -> Outcome
+        ensures { λ r. ⌜ r ≡ whichOf (self .bridge) chip ⌝ }
+    {
+        let b = self.bridge;
+        b.which(chip)
+    }
+
+    // The value that is read, or the refusal of a search that finds none.
+    pub fn read(self, read: Read) -> Outcome
         ensures { λ r. ⌜ r ≡ readOf self read ⌝ }
     {
         let b = self.bridge;
         let n = self.node;
         match read {
-            Read::Bridge(register) => b.read(register),
-            Read::Gate { high, width } => gate_read(self.gate, gate_weight(high, width)),
-            Read::Node(register) => n.read(self.lines(), register),
+            Read::Bridge(register) => Outcome::Value(b.read(register)),
+            Read::Gate { high, width } => {
+                Outcome::Value(gate_read(self.gate, gate_weight(high, width)))
+            }
+            Read::Node(register) => Outcome::Value(n.read(self.lines(), register)),
+            Read::Which(chip) => self.which(chip),
         }
     }
 

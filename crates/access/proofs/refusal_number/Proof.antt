@@ -16,6 +16,7 @@ refusal-number-spec =
     (λ c. search needs)  -- enum-told-6
     (λ c. search needs)  -- enum-told-7
     (λ c. search needs)  -- enum-told-8
+    (λ c. search needs)  -- enum-told-9
     (λ c. simp (c .enum-told .given .1))  -- returns
     (λ c. simp (c .enum-told2 .given .1))  -- returns-2
     (λ c. simp (c .enum-told3 .given .1))  -- returns-3
@@ -24,4 +25,5 @@ refusal-number-spec =
     (λ c. simp (c .enum-told6 .given .1))  -- returns-6
     (λ c. simp (c .enum-told7 .given .1))  -- returns-7
     (λ c. simp (c .enum-told8 .given .1))  -- returns-8
+    (λ c. simp (c .enum-told9 .given .1))  -- returns-9
     )

@@ -18,12 +18,14 @@ decide-spec =
     (λ c κs. search needs)  -- input-plan-requires
     (λ c. search needs)  -- enum-known-source-2
     (λ c κs. search needs)  -- node-input-plan-requires
+    (λ c. search needs)  -- enum-known-chip
     (λ c. search needs)  -- enum-known-open
     (λ c. search needs)  -- enum-told
     (λ c. rw (← c .before .before .before .before .before .requested .ensures (c .before .before .before .before .before .before .args .second-open), ← c .before .before .before .before .judge .ensures, c .before .before .admission .given .1) (c .admitted-plan .ensures))  -- returns
     (λ c. rw (← c .before .before .before .before .before .requested .ensures (c .before .before .before .before .before .before .args .second-open), ← c .before .before .before .before .judge .ensures, c .before .before .register .given .1) (c .bridge-plan .ensures))  -- returns-2
     (λ c. rw (← c .before .before .before .before .before .requested .ensures (c .before .before .before .before .before .before .args .second-open), ← c .before .before .before .before .judge .ensures, c .before .before .source .given .1) (c .input-plan .ensures))  -- returns-3
     (λ c. rw (← c .before .before .before .before .before .requested .ensures (c .before .before .before .before .before .before .args .second-open), ← c .before .before .before .before .judge .ensures, c .before .before .source2 .given .1) (c .node-input-plan .ensures))  -- returns-4
-    (λ c. rw (← c .before .before .before .before .requested .ensures (c .before .before .before .before .before .args .second-open), ← c .before .before .before .judge .ensures, c .before .«open» .given .1))  -- returns-5
-    (λ c. rw (← c .before .before .before .requested .ensures (c .before .before .before .before .args .second-open), ← c .before .before .judge .ensures, c .enum-told .given .1))  -- returns-6
+    (λ c. rw (← c .before .before .before .before .requested .ensures (c .before .before .before .before .before .args .second-open), ← c .before .before .before .judge .ensures, c .before .chip .given .1))  -- returns-5
+    (λ c. rw (← c .before .before .before .before .requested .ensures (c .before .before .before .before .before .args .second-open), ← c .before .before .before .judge .ensures, c .before .«open» .given .1))  -- returns-6
+    (λ c. rw (← c .before .before .before .requested .ensures (c .before .before .before .before .args .second-open), ← c .before .before .judge .ensures, c .enum-told .given .1))  -- returns-7
     )

@@ -28,6 +28,7 @@ requested-spec =
     (λ c. search needs)  -- enum-known-step-7
     (λ c. search needs)  -- enum-known-step-8
     (λ c. search needs)  -- enum-known-step-9
+    (λ c. search needs)  -- enum-known-step-10
     (λ c. search needs)  -- enum-told
     (λ c opened. rw (c .access .ensures, c .before .bus-address .ensures, c .before .before .before .step .given .1))  -- returns
     (λ c opened. rw (c .access2 .ensures, c .before .bus-address2 .ensures, c .before .before .before .step2 .given .1))  -- returns-2
@@ -38,5 +39,6 @@ requested-spec =
     (λ c opened. rw (c .before .step7 .given .1))  -- returns-7
     (λ c opened. rw (c .before .step8 .given .1))  -- returns-8
     (λ c opened. rw (c .before .step9 .given .1))  -- returns-9
-    (λ c opened. rw (c .enum-told .given .1))  -- returns-10
+    (λ c opened. rw (c .before .step10 .given .1))  -- returns-10
+    (λ c opened. rw (c .enum-told .given .1))  -- returns-11
     )

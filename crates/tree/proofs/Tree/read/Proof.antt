@@ -17,7 +17,10 @@ read-spec =
     (λ c. search needs)  -- enum-known-read-3
     (λ c κs. search needs)  -- lines-requires
     (λ c κs. search needs)  -- read-requires-2
+    (λ c. search needs)  -- enum-known-read-4
+    (λ c κs. search needs)  -- which-requires
     (λ c. search (tests, ← c .read2 .ensures, c .before .before .read .given .1))  -- returns
     (λ c. search (tests, ← c .gate-read .ensures, ← c .before .gate-weight .ensures, c .before .before .before .read3 .given .1))  -- returns-2
     (λ c. search (tests, ← c .read5 .ensures, ← c .before .lines .ensures, c .before .before .before .read4 .given .1))  -- returns-3
+    (λ c. search (tests, ← c .which .ensures, c .before .before .read6 .given .1))  -- returns-4
     )
