@@ -1,5 +1,5 @@
 -- The refusals (01, "Refusal numbers"; request Q-5): the number of each, and lists of tests of which the first that applies is given.
---   refusalNumber   the number     Check, _when_   a refusal and its test     firstOf   the first of a list that applies
+--   refusalNumber   the number of each     Check, _when_   a refusal and its test     firstOf   the first of a list that applies
 use Prim.Native.Nat.{ℕ}
 use mathlib.Core.Bool.{Bool, cond}
 use mathlib.Core.List.{List, [], _∷_}

@@ -1,9 +1,9 @@
 -- The bridge registers by name (01, "Bridge registers"; table 8-2 of the manual), in 01's order.
 --   registerAt   by number, in 01's order                    rowOf         rights, and what a write may hold
 --   sized        a written value fits the register           distributed   it holds no distribution but the fixed one
---   writtenOf    what a write does                           inServiceAt   the words of the sources in service
+--   writtenOf    what a write does                           inServiceAt   the words of the sources in service, chipAt by number
 use Prim.Native.Nat.{ℕ, _^_}
-use mathlib.Core.Bool.{Bool, true}
+use mathlib.Core.Bool.{Bool, true, cond}
 use mathlib.Core.List.{List, [], _∷_}
 use lib.Dec.{eqb, leb, ltb}
 use Rattle.access.specs.declared.Rights.{Rights}
@@ -85,7 +85,10 @@ writtenOf IntIsrChip1 value = Changed Nothing
 writtenOf IntIrr value = Changed Nothing
 writtenOf (RouteEntry source) value = plain (Route source) 3 value  -- bits 7..2 are ignored
 
--- INTISR_CHIP0 or INTISR_CHIP1, whichever is asked for (request Q-5)
+-- INTISR_CHIP0 or INTISR_CHIP1, whichever is asked for (request Q-5); by number: 0 is the first, any other the second
 abbrev pub inServiceAt : Chip → Register
 inServiceAt Chip0 = IntIsrChip0
 inServiceAt Chip1 = IntIsrChip1
+
+unfoldable pub chipAt : ℕ → Chip
+chipAt number = cond (eqb number 0) Chip0 Chip1

@@ -1,6 +1,6 @@
 // Section 8.1: the registers of the bridge's interrupt controller by name, and what a write to each does.
 ghost use mathlib.Core.Path.{_≡_};
-ghost use Rattle.bridge.specs.Registers.{distributed, registerAt, rowOf, sized, writtenOf};
+ghost use Rattle.bridge.specs.Registers.{chipAt, distributed, registerAt, rowOf, sized, writtenOf};
 use access::Rights;
 
 // The registers of table 8-2, in the order of 01.
@@ -83,6 +83,16 @@ pub fn numbered(number: u64, source: u64) -> Register
         9 => Register::IntIrr,
         _ => Register::RouteEntry(source),
     }
+}
+
+// The word of a number: 0 is INTISR_CHIP0, any other INTISR_CHIP1.
+pub fn chip_numbered(number: u64) -> Chip
+    ensures { λ r. ⌜ r ≡ chipAt number ⌝ }
+{
+    if number == 0 {
+        return Chip::Chip0;
+    }
+    Chip::Chip1
 }
 
 fn row_with(rights: Rights, holds: Holds) -> Row

@@ -15,7 +15,7 @@ use Rattle.steps.specs.declared.Plan.the-variants.{Refuse, ReadCore, WriteCore,
 use Rattle.device.specs.Device.{answeredOf, coreOf, resetOf, withCore, withOpen, withTree}
 use Rattle.steps.specs.Decide.{decideOf}
 
--- the read value of any accepted step other than a read is 0
+-- the read value of any accepted step other than a read or a search is 0
 unfoldable pub outcomeOf : Device → Plan → Outcome
 outcomeOf d (Refuse reason) = Refused reason
 outcomeOf d (ReadCore register core width) = Value (cores.readOf (coreOf d core) register width)
@@ -26,7 +26,7 @@ outcomeOf d (ChangeTree change) = Value 0
 outcomeOf d (Window opened) = Value 0
 outcomeOf d Reset = Value 0
 
--- a refused step and a read leave the device as it is
+-- a refused step, a read and a search leave the device as it is
 unfoldable pub nextOf : Device → Plan → Device
 nextOf d (Refuse reason) = d
 nextOf d (ReadCore register core width) = d

@@ -2,21 +2,15 @@
 -- where words are counted from 0: a register's name counts by its number in 01's order.
 --   forms   the step of each form, in the order of the script's table     lineStep   the step of a line     lineSteps   those of a block's lines
 use Prim.Native.Nat.{ℕ}
-use mathlib.Core.Bool.{true, false, cond, not}
+use mathlib.Core.Bool.{true, false, not}
 use mathlib.Core.List.{List, [], _∷_, map}
 use lib.Dec.{eqb}
 use lib.ListN.{getD, take}
 use Rattle.access.specs.Table.{Row, lookup, row}
-use Rattle.bridge.specs.declared.Chip.{Chip}
-use Rattle.bridge.specs.declared.Chip.the-variants.{Chip0, Chip1}
 use Rattle.bridge.specs.declared.Register.the-variants.{RouteEntry}
-use Rattle.bridge.specs.Registers.{registerAt}
+use Rattle.bridge.specs.Registers.{chipAt, registerAt}
 use Rattle.steps.specs.declared.Step.{Step}
 use Rattle.steps.specs.declared.Step.the-variants.{BusRead, BusWrite, PrivateRead, PrivateWrite, BridgeRead, BridgeWrite, Input, NodeInput, Which, Window, Reset}
-
--- 0 is INTISR_CHIP0, any other number INTISR_CHIP1
-abbrev pub chipAt : ℕ → Chip
-chipAt n = cond (eqb n 0) Chip0 Chip1
 
 -- `at i` is the number at word i
 unfoldable pub forms : (ℕ → ℕ) → List (Row Step)

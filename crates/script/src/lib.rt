@@ -3,9 +3,8 @@ ghost use mathlib.Core.Path.{_≡_};
 ghost use mathlib.Core.List.{[]};
 ghost use Prim.Native.Nat.{_+_, _<_, _≤_};
 ghost use lib.ListN.{drop, getD, length};
-ghost use Rattle.script.specs.Line.{chipAt, lineStep, lineSteps};
+ghost use Rattle.script.specs.Line.{lineStep, lineSteps};
 ghost use Rattle.script.specs.Block.{BlockRule, clashCount, clashesWith, counted};
-use bridge::Chip;
 use bridge::Register;
 use clashes::Clash;
 use device::Device;
@@ -54,15 +53,6 @@ fn bridge_write(register: Register, value: u64) -> Step
     Step::BridgeWrite { register, value }
 }
 
-fn which(chip: u64) -> Step
-    ensures { λ r. ⌜ r ≡ Step.Which (chipAt chip) ⌝ }
-{
-    if chip == 0 {
-        return Step::Which { chip: Chip::Chip0 };
-    }
-    Step::Which { chip: Chip::Chip1 }
-}
-
 // The step of a line from its values: the number of its form, then the number at each word's place.
 pub fn step_of(v: [u64; 7]) -> Step
     ensures { λ r. ⌜ r ≡ lineStep v ⌝ }
@@ -100,7 +90,9 @@ pub fn step_of(v: [u64; 7]) -> Step
             source: v[2],
             level: v[3] != 0,
         },
-        WHICH => which(v[1]),
+        WHICH => Step::Which {
+            chip: bridge::chip_numbered(v[1]),
+        },
         WINDOW_OPEN => Step::Window { open: true },
         WINDOW_CLOSED => Step::Window { open: false },
         _ => Step::Reset,

@@ -5,7 +5,6 @@ mod mix;
 use access::refusal_number;
 use answers::Answer;
 use answers::Outcome;
-use bridge::Chip;
 use cores::Core;
 use device::Device;
 use libc::STDOUT_FILENO;
@@ -45,13 +44,6 @@ fn access_of(kind: u64, unit: u64, place: u64, width: u64, value: u64) -> Step {
     }
 }
 
-fn which_of(place: u64) -> Step {
-    if place == 0 {
-        return Step::Which { chip: Chip::Chip0 };
-    }
-    Step::Which { chip: Chip::Chip1 }
-}
-
 fn step_of(kind: u64, unit: u64, place: u64, width: u64, value: u64) -> Step {
     match kind {
         4 => Step::BridgeRead {
@@ -77,7 +69,9 @@ fn step_of(kind: u64, unit: u64, place: u64, width: u64, value: u64) -> Step {
             source: place,
             level: value != 0,
         },
-        10 => which_of(place),
+        10 => Step::Which {
+            chip: bridge::chip_numbered(place),
+        },
         _ => access_of(kind, unit, place, width, value),
     }
 }

@@ -38,8 +38,8 @@ step-of-spec =
     (λ c. search needs)  -- array-read-t71
     (λ c. search needs)  -- array-read-t75
     (λ c. search needs)  -- array-read-t78
-    (λ c. search needs)  -- array-read-which
-    (λ c κs. search needs)  -- which-requires
+    (λ c. search needs)  -- array-read-chip-numbered
+    (λ c κs. search needs)  -- chip-numbered-requires
     (λ c. rw (c .match .keys1))  -- returns
     (λ c. rw (c .match .keys2))  -- returns-2
     (λ c. rw (c .match .keys3))  -- returns-3
@@ -50,7 +50,7 @@ step-of-spec =
     (λ c. rw (c .bridge-write2 .ensures, c .before .match .keys8))  -- returns-8
     (λ c. rw (c .match .keys9))  -- returns-9
     (λ c. rw (c .match .keys10))  -- returns-10
-    (λ c. rw (c .which .ensures, c .before .match .keys11))  -- returns-11
+    (λ c. rw (c .chip-numbered .ensures, c .before .match .keys11))  -- returns-11
     (λ c. rw (c .match .keys12))  -- returns-12
     (λ c. rw (c .match .keys13))  -- returns-13
     (λ c. search (tests, c .match .rest))  -- returns-14
