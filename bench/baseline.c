@@ -23,6 +23,8 @@ struct bridge {
     uint64_t latch;
     uint64_t soft;
     uint64_t level;
+    uint64_t turn_mode;
+    uint64_t turn;
     uint8_t routes[64];
 };
 
@@ -234,12 +236,20 @@ static uint64_t bridge_pending(const struct bridge *b)
     return bridge_requests(b) & ~b->mask & ~b->msi;
 }
 
+// The outputs that a source shows on, a bit for each: those that it is routed to, but in turn mode with both only the one at turn.
+static unsigned bridge_shown(const struct bridge *b, unsigned source)
+{
+    unsigned route = b->routes[source];
+
+    return route == 3 && b->turn_mode >> source & 1 ? 1u << (b->turn >> source & 1) : route;
+}
+
 static uint64_t bridge_in_service(const struct bridge *b, unsigned k)
 {
     uint64_t word = 0;
 
     for (uint64_t p = bridge_pending(b); p != 0; p &= p - 1)
-        if (b->routes[__builtin_ctzll(p)] >> k & 1)
+        if (bridge_shown(b, __builtin_ctzll(p)) >> k & 1)
             word |= p & -p;
     return word;
 }
@@ -250,7 +260,7 @@ static enum refusal bridge_which(const struct bridge *b, unsigned k, uint64_t *v
     for (uint64_t p = bridge_pending(b); p != 0; p &= p - 1) {
         unsigned source = __builtin_ctzll(p);
 
-        if (b->routes[source] >> k & 1) {
+        if (bridge_shown(b, source) >> k & 1) {
             *value = source;
             return ACCEPTED;
         }
@@ -258,13 +268,16 @@ static enum refusal bridge_which(const struct bridge *b, unsigned k, uint64_t *v
     return NONE_IN_SERVICE;
 }
 
-// The outputs that some pending source is routed to, a bit for each.
+// The outputs that some pending source shows on, a bit for each. Sources in fixed mode come first: their routes say it all.
 static unsigned bridge_outputs(const struct bridge *b)
 {
+    uint64_t pending = bridge_pending(b);
     unsigned outputs = 0;
 
-    for (uint64_t p = bridge_pending(b); p != 0 && outputs != 3; p &= p - 1)
+    for (uint64_t p = pending & ~b->turn_mode; p != 0 && outputs != 3; p &= p - 1)
         outputs |= b->routes[__builtin_ctzll(p)];
+    for (uint64_t p = pending & b->turn_mode; p != 0 && outputs != 3; p &= p - 1)
+        outputs |= bridge_shown(b, __builtin_ctzll(p));
     return outputs;
 }
 
@@ -500,12 +513,53 @@ static enum refusal bus_write(struct device *d, const struct step *s)
 
 // Bridge accesses.
 
+// The requests were as given: in turn mode, where one has fallen, the turn goes to the output after the one just used.
+static void bridge_turns(struct bridge *b, uint64_t before)
+{
+    for (uint64_t f = before & ~bridge_requests(b) & b->turn_mode; f != 0; f &= f - 1) {
+        uint64_t bit = f & -f;
+
+        switch (b->routes[__builtin_ctzll(f)]) {
+        case 1:
+            b->turn |= bit;
+            break;
+        case 2:
+            b->turn &= ~bit;
+            break;
+        case 3:
+            b->turn ^= bit;
+            break;
+        }
+    }
+}
+
 // New input levels and soft bits: in edge mode a source whose drive rises is latched.
 static void bridge_drive(struct bridge *b, uint64_t level, uint64_t soft)
 {
+    uint64_t before = bridge_requests(b);
+
     b->latch |= (level | soft) & ~(b->level | b->soft) & b->edge;
     b->level = level;
     b->soft = soft;
+    bridge_turns(b, before);
+}
+
+// New modes: a source taken from edge to level mode loses its latch.
+static void bridge_modes(struct bridge *b, uint64_t edge)
+{
+    uint64_t before = bridge_requests(b);
+
+    b->latch &= ~b->edge | edge;
+    b->edge = edge;
+    bridge_turns(b, before);
+}
+
+static void bridge_clear(struct bridge *b, uint64_t latches)
+{
+    uint64_t before = bridge_requests(b);
+
+    b->latch &= ~latches;
+    bridge_turns(b, before);
 }
 
 static enum refusal bridge_read(const struct bridge *b, uint64_t reg, uint64_t source, uint64_t *value)
@@ -524,6 +578,8 @@ static enum refusal bridge_read(const struct bridge *b, uint64_t reg, uint64_t s
         *value = b->soft;
         break;
     case AUTO_CTRL0:
+        *value = b->turn_mode;
+        break;
     case AUTO_CTRL1:
         break;
     case INTCLR:
@@ -553,20 +609,21 @@ static enum refusal bridge_write(struct bridge *b, uint64_t reg, uint64_t source
     case MSI_EN:
         b->msi = value;
         break;
-    case INTEDGE: // a source taken from edge to level mode loses its latch
-        b->latch &= ~b->edge | value;
-        b->edge = value;
+    case INTEDGE:
+        bridge_modes(b, value);
         break;
     case SOFT_INT:
         bridge_drive(b, b->level, value);
         break;
     case AUTO_CTRL0:
+        b->turn_mode = value;
+        break;
     case AUTO_CTRL1:
         if (value != 0)
             return BAD_DISTRIBUTION;
         break;
     case INTCLR:
-        b->latch &= ~value;
+        bridge_clear(b, value);
         break;
     case INTISR_CHIP0:
     case INTISR_CHIP1:
@@ -701,6 +758,8 @@ static uint64_t state_folded(uint64_t sum, const struct device *d)
     sum = folded(sum, b->latch);
     sum = folded(sum, b->soft);
     sum = folded(sum, b->level);
+    sum = folded(sum, b->turn_mode);
+    sum = folded(sum, b->turn);
     for (int i = 0; i < 64; i++)
         sum = folded(sum, b->routes[i]);
     sum = folded(sum, n->enable);
@@ -714,10 +773,12 @@ static uint64_t state_folded(uint64_t sum, const struct device *d)
 
 #ifdef COUNTS
 // What a mix does to the device, for gcc -DCOUNTS: totals over the steps of a run.
-static uint64_t refused[10], lines[12], opened, pending, visited, enabled, requested;
+static uint64_t refused[10], lines[12], opened, pending, visited, alternating, turned, enabled, requested;
 
 static void count(const struct device *d, const struct answer *a)
 {
+    static uint64_t turn;
+    const struct bridge *b = &d->bridge;
     unsigned outputs = 0;
 
     refused[a->refusal]++;
@@ -730,9 +791,15 @@ static void count(const struct device *d, const struct answer *a)
     enabled += __builtin_popcount(d->node.enable);
     requested += __builtin_popcount(node_requests(&d->node, device_lines(d)) & d->node.enable);
     opened += d->gate;
-    pending += __builtin_popcountll(bridge_pending(&d->bridge));
-    for (uint64_t p = d->gate ? bridge_pending(&d->bridge) : 0; p != 0 && outputs != 3; p &= p - 1, visited++)
-        outputs |= d->bridge.routes[__builtin_ctzll(p)];
+    pending += __builtin_popcountll(bridge_pending(b));
+    for (uint64_t p = d->gate ? bridge_pending(b) & ~b->turn_mode : 0; p != 0 && outputs != 3; p &= p - 1, visited++)
+        outputs |= b->routes[__builtin_ctzll(p)];
+    for (uint64_t p = d->gate ? bridge_pending(b) & b->turn_mode : 0; p != 0 && outputs != 3; p &= p - 1, visited++)
+        outputs |= bridge_shown(b, __builtin_ctzll(p));
+    for (uint64_t p = bridge_pending(b) & b->turn_mode; p != 0; p &= p - 1)
+        alternating += b->routes[__builtin_ctzll(p)] == 3;
+    turned += __builtin_popcountll(b->turn ^ turn);
+    turn = b->turn;
 }
 
 static void counts_print(double n)
@@ -742,13 +809,14 @@ static void counts_print(double n)
         printf(" %d %.4f", i, refused[i] / n);
     printf("\n  lines high %.3f %.3f %.3f %.3f, gate open %.3f, sources pending %.2f, routes looked at %.2f\n", lines[0] / n,
            lines[1] / n, lines[2] / n, lines[3] / n, opened / n, pending / n, visited / n);
+    printf("  sources pending that alternate %.2f, turn bits that move %.4f\n", alternating / n, turned / n);
     printf("  pins high");
     for (int j = 0; j < 8; j++)
         printf(" %.3f", lines[4 + j] / n);
     printf(", node sources enabled %.2f, of which request %.2f\n", enabled / n, requested / n);
     memset(refused, 0, sizeof refused);
     memset(lines, 0, sizeof lines);
-    opened = pending = visited = enabled = requested = 0;
+    opened = pending = visited = alternating = turned = enabled = requested = 0;
 }
 #endif
 

@@ -1,4 +1,4 @@
--- The refusals (01, "Refusal numbers"; request Q-5): the number of each, and lists of tests of which the first that applies is given.
+-- The refusals (01, "Refusal numbers"; requests Q-2, Q-5 and Q-6): the number of each, and lists of tests of which the first that applies is given.
 --   refusalNumber   the number of each     Check, _when_   a refusal and its test     firstOf   the first of a list that applies
 use Prim.Native.Nat.{ℕ}
 use mathlib.Core.Bool.{Bool, cond}
@@ -16,7 +16,7 @@ refusalNumber Width = 4  -- the width isn't one listed for that register
 refusalNumber Right = 5  -- read of a write-only register, or write of a read-only one
 refusalNumber Value = 6  -- a written value doesn't fit the width, or a route value is above 255
 refusalNumber Source = 7  -- source number above 63; of a node input change, not one of 2 to 31 (Q-2)
-refusalNumber Distribution = 8  -- a nonzero word written to AUTO_CTRL0 or AUTO_CTRL1
+refusalNumber Distribution = 8  -- a nonzero word written to AUTO_CTRL1 (Q-6)
 refusalNumber NoneInService = 9  -- no source has its bit set in the INTISR_CHIP word that is searched (Q-5)
 
 -- a refusal, and the test that says whether it applies

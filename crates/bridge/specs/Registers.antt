@@ -1,6 +1,6 @@
 -- The bridge registers by name (01, "Bridge registers"; table 8-2 of the manual), in 01's order.
 --   registerAt   by number, in 01's order                    rowOf         rights, and what a write may hold
---   sized        a written value fits the register           distributed   it holds no distribution but the fixed one
+--   sized        a written value fits the register           distributed   it asks for fixed or turn mode
 --   writtenOf    what a write does                           inServiceAt   the words of the sources in service, chipAt by number
 use Prim.Native.Nat.{ℕ, _^_}
 use mathlib.Core.Bool.{Bool, true, cond}
@@ -18,7 +18,7 @@ use Rattle.bridge.specs.declared.Holds.the-variants.{Word, Zero, Byte}
 use Rattle.bridge.specs.declared.Row.{Row}
 use Rattle.bridge.specs.declared.Cell.{Cell}
 use Rattle.bridge.specs.declared.Cell.the-variants.{Mask, Msi, Route}
-use Rattle.bridge.specs.declared.Change.the-variants.{Modes, Soft, Clear, Nothing}
+use Rattle.bridge.specs.declared.Change.the-variants.{Modes, Soft, Auto, Clear, Nothing}
 use Rattle.bridge.specs.declared.Written.{Written}
 use Rattle.bridge.specs.declared.Written.the-variants.{Plain, Changed}
 
@@ -49,7 +49,7 @@ rowOf IntMask = row 0 Both Word
 rowOf MsiEn = row 0 Both Word
 rowOf IntEdge = row 0 Both Word
 rowOf SoftInt = row 0 Both Word
-rowOf AutoCtrl0 = row 0 Both Zero
+rowOf AutoCtrl0 = row 0 Both Word
 rowOf AutoCtrl1 = row 0 Both Zero
 rowOf IntClr = row 0 Write Word
 rowOf IntIsrChip0 = row 0 Read Word
@@ -63,7 +63,7 @@ sized Word value = ltb value (2 ^ 64)
 sized Zero value = ltb value (2 ^ 64)
 sized Byte value = leb value 255
 
--- AUTO_CTRL words can hold only 0 (fixed distribution)
+-- AUTO_CTRL1 can hold only 0 (request Q-6): of the distribution modes, fixed where AUTO_CTRL0 is 0, and turns where it is 1
 unfoldable pub distributed : Holds → ℕ → Bool
 distributed Word value = true
 distributed Zero value = eqb value 0
@@ -77,8 +77,8 @@ writtenOf IntMask value = plain Mask 0xffffffffffffffff value
 writtenOf MsiEn value = plain Msi 0xffffffffffffffff value
 writtenOf IntEdge value = Changed (Modes value)
 writtenOf SoftInt value = Changed (Soft value)
-writtenOf AutoCtrl0 value = Changed Nothing
-writtenOf AutoCtrl1 value = Changed Nothing
+writtenOf AutoCtrl0 value = Changed (Auto value)
+writtenOf AutoCtrl1 value = Changed Nothing  -- 0, which it holds
 writtenOf IntClr value = Changed (Clear value)
 writtenOf IntIsrChip0 value = Changed Nothing  -- read only, as are the two below: no write is accepted
 writtenOf IntIsrChip1 value = Changed Nothing

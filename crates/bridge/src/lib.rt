@@ -52,10 +52,11 @@ pub struct Effect {
     pub bits: u64,
 }
 
-// A change that is not plain: the modes, the soft bits, latches cleared, or none.
+// A change that is not plain: the modes, the soft bits, the turn modes (AUTO_CTRL0), latches cleared, or none.
 pub enum Change {
     Modes(u64),
     Soft(u64),
+    Auto(u64),
     Clear(u64),
     Nothing,
 }
@@ -114,7 +115,7 @@ pub fn row_of(register: Register) -> Row
         Register::MsiEn => row_with(Rights::Both, Holds::Word),
         Register::IntEdge => row_with(Rights::Both, Holds::Word),
         Register::SoftInt => row_with(Rights::Both, Holds::Word),
-        Register::AutoCtrl0 => row_with(Rights::Both, Holds::Zero),
+        Register::AutoCtrl0 => row_with(Rights::Both, Holds::Word),
         Register::AutoCtrl1 => row_with(Rights::Both, Holds::Zero),
         Register::IntClr => row_with(Rights::Write, Holds::Word),
         Register::IntIsrChip0 => row_with(Rights::Read, Holds::Word),
@@ -139,7 +140,7 @@ pub fn fits(holds: Holds, value: u64) -> bool
     }
 }
 
-// Only fixed distribution is held.
+// AUTO_CTRL1 holds 0 alone.
 pub fn held(holds: Holds, value: u64) -> bool
     ensures { λ r. ⌜ r ≡ distributed holds value ⌝ }
 {
@@ -175,7 +176,7 @@ pub fn write(register: Register, value: u64) -> Written
         Register::MsiEn => plain(Cell::Msi, 0xffff_ffff_ffff_ffff, value),
         Register::IntEdge => changed(Change::Modes(value)),
         Register::SoftInt => changed(Change::Soft(value)),
-        Register::AutoCtrl0 => changed(Change::Nothing),
+        Register::AutoCtrl0 => changed(Change::Auto(value)),
         Register::AutoCtrl1 => changed(Change::Nothing),
         Register::IntClr => changed(Change::Clear(value)),
         Register::IntIsrChip0 => changed(Change::Nothing),

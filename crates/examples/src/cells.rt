@@ -72,16 +72,20 @@ pub(crate) fn same_reads(a: Device, b: Device) -> bool {
     true
 }
 
-// The latches and the input levels of the bridge and of the node are the same.
+// The latches and the input levels of the bridge and of the node, and the turns, are the same.
 fn same_hidden(a: Tree, b: Tree) -> bool {
     let p = a.bridge;
     let q = b.bridge;
     let m = a.node;
     let n = b.node;
-    p.latch == q.latch && p.level == q.level && m.latch == n.latch && m.level == n.level
+    p.latch == q.latch
+        && p.level == q.level
+        && p.turn == q.turn
+        && m.latch == n.latch
+        && m.level == n.level
 }
 
-// Every cell is the same in both: those that no read shows are the latches, the input levels and the window switch.
+// Every cell is the same in both: those that no read shows are the latches, the input levels, the turns and the window switch.
 pub(crate) fn same_cells(a: Device, b: Device) -> bool {
     same_hidden(a.tree, b.tree) && a.second_open == b.second_open && same_reads(a, b)
 }

@@ -1,5 +1,5 @@
 // Runs the examples of 01 ("Examples on each side") that the proved table leaves, and says of each whether the device does what 01 says, or the request
-// that changed it (11: Q-1). Then come facts of section 8.2, by the readings of Q-2, and searches (Q-5).
+// that changed it (11: Q-1, 13: Q-6). Then come facts of section 8.2, by the readings of Q-2, searches (Q-5) and turns (Q-6).
 // The parts of an example are lettered in 01's order; those that are missing are in the table, crates/promises/specs/Examples.antt. 8a to 8f,
 // 9b and 12b are there too, and so is 12c with other mail sends: they are run here again.
 mod cells;
@@ -175,13 +175,14 @@ fn example_12_mail(run: Run) -> Run {
         .reads(mailbox, 0x11bbccdd_00000000) // 12c
 }
 
-// Only fixed distribution is held.
+// AUTO_CTRL0 keeps any word, and AUTO_CTRL1 only 0 (Q-6).
 fn example_13(run: Run) -> Run {
     run.fresh()
         .writes(Register::AutoCtrl0, 0) // 13a
         .shows(Register::AutoCtrl0, 0) // 13a
-        .refuses(bridge_write(Register::AutoCtrl0, 1), 8) // 13b
-        .shows(Register::AutoCtrl0, 0) // 13b
+        .writes(Register::AutoCtrl0, 1) // 13b
+        .shows(Register::AutoCtrl0, 1) // 13b
+        .refuses(bridge_write(Register::AutoCtrl1, 1), 8) // 13b
 }
 
 // A route of the node holds six bits, and 0x42 is INT2 of core 1.
@@ -238,6 +239,19 @@ fn which_source(run: Run) -> Run {
         .reads(which(Chip::Chip1), 63)
 }
 
+// Two interrupts of a source in turn mode that is routed to both outputs: each shows on one, and the second on the other.
+fn turns(run: Run) -> Run {
+    run.fresh()
+        .after(bridge_write(Register::IntMask, 0))
+        .after(bridge_write(Register::AutoCtrl0, SOURCE_63))
+        .after(bridge_write(Register::RouteEntry(63), 3))
+        .after(input(63, true))
+        .shows(Register::IntIsrChip1, 0)
+        .after(input(63, false))
+        .after(input(63, true))
+        .shows(Register::IntIsrChip1, SOURCE_63)
+}
+
 fn main() {
     let run = Run::start();
     let run = example_5(run);
@@ -257,5 +271,6 @@ fn main() {
     let run = node_edge(run);
     let run = node_sources(run);
     let run = which_source(run);
+    let run = turns(run);
     run.show_totals();
 }

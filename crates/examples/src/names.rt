@@ -97,8 +97,9 @@ fn show_second(n: u64) {
 12c core 1 MailBox3
 13a AUTO_CTRL0 = 0
 13a AUTO_CTRL0
-13b AUTO_CTRL0 = 1
-13b AUTO_CTRL0
+13b AUTO_CTRL0 = 1, by Q-6
+13b AUTO_CTRL0, by Q-6
+13b AUTO_CTRL1 = 1, by Q-6
 ",
         n,
     );
@@ -124,6 +125,8 @@ Q-5 source 63 high, routed to both
 Q-5 source 8 too, routed to INTn0
 Q-5 source 0 too, routed to INTn0
 Q-5 which source in INTISR_CHIP1
+Q-6 INTISR_CHIP1, source 63 high, in turn mode, routed to both
+Q-6 INTISR_CHIP1, source 63 low and high again
 ",
         n,
     );
@@ -135,9 +138,9 @@ pub(crate) fn show_name(n: u64) {
         show_first(n);
         return;
     }
-    if n < 56 {
+    if n < 57 {
         show_second(n - 30);
         return;
     }
-    show_third(n - 56);
+    show_third(n - 57);
 }

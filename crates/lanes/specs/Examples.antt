@@ -9,6 +9,7 @@ three-bytes : writtenBytes 4 8 ≡ 0x00ffffff
 unfolding writtenBytes word bit
 three-bytes = refl
 
-second-bits : gathered 4 (3 ∷ 1 ∷ 2 ∷ 0 ∷ []) 1 ≡ 5
+-- bytes 0, 2 and 3 have bit 1, and 3 is not picked
+second-bits : gathered 4 (3 ∷ 1 ∷ 2 ∷ 2 ∷ []) 7 1 ≡ 5
 unfolding gathered word bit
 second-bits = refl

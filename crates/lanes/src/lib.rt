@@ -22,26 +22,15 @@ pub fn written_bytes(mask: u64) -> u64
     written
 }
 
-// Bit i of the result is bit k of byte i.
-pub fn gather(all: [u8; 64], k: u8) -> u64
-    ensures { λ r. ⌜ r ≡ bytes.gathered 64 all k ⌝ }
-{
-    let mut r: u64 = 0;
-    for i in 0..64 {
-        r |= (bits::test(all[i] as u64, k as u64) as u64) << i;
-    }
-    r
-}
-
 // The number of the lowest bit that is set; 64 where none is.
-fn lowest(w: u64) -> u32
+pub fn lowest(w: u64) -> u32
     ensures { λ r. ⌜ r ≡ words.first 64 (words.bit w) ⌝ }
 {
     u64::trailing_zeros(w)
 }
 
 // The word with its lowest set bit cleared.
-fn clear_lowest(w: u64) -> u64
+pub fn clear_lowest(w: u64) -> u64
     ensures { λ r. ⌜ r ≡ words.put 64 w (words.first 64 (words.bit w)) false ⌝ }
 {
     if w == 0 { 0 } else { w & (w - 1) }
@@ -59,6 +48,20 @@ pub fn clear_lowest32(w: u32) -> u32
     ensures { λ r. ⌜ r ≡ words.put 32 w (words.first 32 (words.bit w)) false ⌝ }
 {
     if w == 0 { 0 } else { w & (w - 1) }
+}
+
+// The bytes that `which` picks and that have bit k set. Only those that it picks are looked at.
+pub fn gather(all: [u8; 64], which: u64, k: u64) -> u64
+    ensures { λ r. ⌜ r ≡ bytes.gathered 64 all which k ⌝ }
+{
+    let mut w = which;
+    let mut r: u64 = 0;
+    while w != 0 {
+        let i = lowest(w);
+        r |= (bits::test(all[i as usize] as u64, k) as u64) << i;
+        w = clear_lowest(w);
+    }
+    r
 }
 
 // Bits 0 and 1 of the bytes that `which` picks, united. Only those bytes are looked at, and none once both bits are set.

@@ -6,8 +6,8 @@ use mathlib.Core.Bool.{Bool, true, false, cond, not, _&&_, true≢false}
 use native.Mathlib.Omega.{arith}
 use lib.Dec.{eqb}
 use borrow.Table.Steps.{cases}
-use borrow.Author.Tests.{eqb-false, eqb-true, not-false, not-true}
-use Rattle.bits.specs.Bits.{bit, first, some}
+use borrow.Author.Tests.{eq-eqb, eqb-false, eqb-true, not-false, not-true}
+use Rattle.bits.specs.Bits.{bit, digit, first, some}
 use Rattle.bits.specs.Latch.{cleared, latched, risen}
 use Rattle.bits.proofs.Some.{some-at, some-bit, some-of}
 use Rattle.bits.proofs.Taut.{taut}
@@ -47,7 +47,7 @@ use Rattle.device.specs.Device.{answeredOf, resetOf, startOf, withCore0, withCo
 use Rattle.steps.specs.Decide.{bridgePlan, decideOf, inputPlan, nodeInputPlan, planned, writtenPlan}
 use Rattle.answers.specs.Answers.{outcomeData, outcomeNumber}
 use Rattle.device.specs.Step.{nextOf, outcomeOf, stepOf}
-use Rattle.promises.specs.Promises.{BesideBridge, BesideNode, BridgeLines, BridgeSteps, Cause, IpiLines, Left, NodeInputs, Passed, PinLines, RefusedSteps, Routed, Searched, Separation, Settles, Vector, WhichSource}
+use Rattle.promises.specs.Promises.{Alternating, BesideBridge, BesideNode, BridgeLines, BridgeSteps, Cause, IpiLines, Left, NodeInputs, Passed, PinLines, RefusedSteps, Routed, Searched, Separation, Settles, Vector, WhichSource}
 
 -- ---- refused steps
 
@@ -93,7 +93,7 @@ refused-steps d s reason e =
 
 -- ---- the lines
 
-and-parts : (a b : Bool) → (a && b) ≡ true → (a ≡ true) × (b ≡ true)
+pub and-parts : (a b : Bool) → (a && b) ≡ true → (a ≡ true) × (b ≡ true)
 and-parts true b e = (refl, e)
 and-parts false b e = absurd (true≢false (sym e))
 
@@ -108,6 +108,17 @@ pub ipi-lines : IpiLines
 unfolding stepOf answeredOf
 ipi-lines d s = (vector _, vector _)
 
+at-turn : (b : Bridge) (k i : ℕ) → (Alternating b i → digit (bit (b .turn) i) ≡ k)
+    → cond (bit (b .auto) i && (bit (sources.routeOf b i) 0 && bit (sources.routeOf b i) 1)) (eqb (digit (bit (b .turn) i)) k) true ≡ true
+at-turn b k i e =
+    cases
+    (bit (b .auto) i && (bit (sources.routeOf b i) 0 && bit (sources.routeOf b i) 1))
+    (λ t.
+    let p = and-parts _ _ t in
+    let q = and-parts _ _ (p .1) in
+    rw t (eq-eqb _ k (e (record { mode = p .0; to-0 = q .0; to-1 = q .1 }))))
+    (λ u. rw u)
+
 cause : (b : Bridge) (k : ℕ) → (sources.lineOf b k ≡ true) ↔ Cause b k
 unfolding sources.lineOf
 cause b k = (
@@ -116,8 +127,17 @@ cause b k = (
       let p = and-parts _ _ (w .2) in
       let q = and-parts _ _ (p .0) in
       let r = and-parts _ _ (q .1) in
-      record { source = w .0; there = w .1; pending = q .0; unmasked = not-true _ (r .0); no-message = not-true _ (r .1); routed = p .1 },
-  λ c. some-of 64 _ (c .source) (c .there) (rw (c .pending, c .unmasked, c .no-message, c .routed)),
+      let s = and-parts _ _ (p .1) in
+      record {
+        source = w .0;
+        there = w .1;
+        pending = q .0;
+        unmasked = not-true _ (r .0);
+        no-message = not-true _ (r .1);
+        routed = s .0;
+        at-turn = λ a. eqb-true _ k (rw (a .mode, a .to-0, a .to-1) at (s .1));
+      },
+  λ c. some-of 64 _ (c .source) (c .there) (rw (c .pending, c .unmasked, c .no-message, c .routed) (at-turn b k (c .source) (c .at-turn))),
 )
 
 gated : (t : Tree) (k : ℕ) → (tree.bridgeLine t k ≡ true) ↔ Passed t k
@@ -157,7 +177,7 @@ pin-lines d s c p h l = let t = stepOf d s .device .tree in rw (pin-bit t c p h 
 -- ---- which source is it?
 
 -- a read of INTISR_CHIP0 or INTISR_CHIP1 is accepted, and gives a word of 64 bits
-reads : (d : Device) (chip : Chip)
+pub reads : (d : Device) (chip : Chip)
     → stepOf d (BridgeRead (inServiceAt chip)) .answer .outcome ≡ Value (sources.readOf (d .tree .bridge) (inServiceAt chip))
 unfolding stepOf answeredOf decideOf bridgePlan bridgeRefusals rowOf permitted sized distributed outcomeOf tree.readOf
 reads d Chip0 = refl

@@ -8,6 +8,7 @@ use mathlib.Core.Path.{_≡_}
 use lib.ListN.{replicate, set}
 use Rattle.cores.specs.declared.Core.{Core}
 use Rattle.sources.specs.declared.Bridge.{Bridge}
+use Rattle.sources.specs.Changes.{withDrive, withPlain}
 use Rattle.bridge.specs.declared.Register.the-variants.{IntMask, IntEdge, IntClr, IntIsrChip0, IntIsrChip1, IntIrr, RouteEntry}
 use Rattle.device.specs.declared.Device.{Device}
 use Rattle.answers.specs.declared.Answer.{Answer}
@@ -79,7 +80,7 @@ ones = 0xffffffffffffffff
 
 -- a bridge with only masks, modes, levels and the route of source 63 set
 abbrev bridged : ℕ → ℕ → ℕ → ℕ → Bridge
-bridged mask edge level route = record { mask = mask; msi = 0; edge = edge; latch = 0; soft = 0; level = level; routes = set (replicate 64 0) 63 route }
+bridged mask edge level route = withPlain (withDrive (freshOf .tree .bridge) edge 0 0 level) mask 0 (set (replicate 64 0) 63 route)
 
 -- the fresh device with such a bridge, and the gate
 abbrev treed : Bridge → Bool → Device

@@ -8,15 +8,14 @@ use mathlib.Core.Path.{_≡_}
 use mathlib.Core.Logic.{_↔_}
 use mathlib.Core.Bool.{Bool, true, false, cond}
 use lib.Dec.{eqb}
-use lib.ListN.{getD}
-use Rattle.bits.specs.Bits.{bit}
+use Rattle.bits.specs.Bits.{bit, digit}
 use Rattle.access.specs.declared.Refusal.{Refusal}
 use Rattle.cores.specs.declared.Core.{Core}
 use Rattle.bridge.specs.declared.Chip.{Chip}
 use Rattle.bridge.specs.declared.Register.{Register}
 use Rattle.bridge.specs.Registers.{inServiceAt}
 use Rattle.sources.specs.declared.Bridge.{Bridge}
-use Rattle.sources.specs.Sources.{requestAt}
+use Rattle.sources.specs.Sources.{requestAt, routeOf}
 use Rattle.routes.specs.Routes.{toCore, toPin}
 use Rattle.pins.specs.declared.Node.{Node}
 use Rattle.pins.specs.Pins as pins
@@ -59,14 +58,21 @@ pub record Vector (c : Core) : Type 0 where
   pub pending : bit (c .status) number ≡ true
   pub enabled : bit (c .enable) number ≡ true
 
--- a source that requests service, is not masked, not sent as a message, and routed to output k
+-- source i is in turn mode and has both route bits set (request Q-6)
+pub record Alternating (b : Bridge) (i : ℕ) : Type 0 where
+  pub mode : bit (b .auto) i ≡ true
+  pub to-0 : bit (routeOf b i) 0 ≡ true
+  pub to-1 : bit (routeOf b i) 1 ≡ true
+
+-- a source that requests service, is not masked, not sent as a message, and routed to output k, which is at its turn where the source alternates
 pub record Cause (b : Bridge) (k : ℕ) : Type 0 where
   pub source : ℕ
   pub there : source < 64
   pub pending : requestAt b source ≡ true
   pub unmasked : bit (b .mask) source ≡ false
   pub no-message : bit (b .msi) source ≡ false
-  pub routed : bit (getD (b .routes) source 0) k ≡ true
+  pub routed : bit (routeOf b source) k ≡ true
+  pub at-turn : Alternating b source → digit (bit (b .turn) source) ≡ k
 
 -- the lines after a step, by the device after it
 abbrev pub IpiLines : Type 0

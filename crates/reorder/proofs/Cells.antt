@@ -141,6 +141,8 @@ device-determined d e h k q s = λ i. record {
       latch = q i .latch;
       soft = q i .soft;
       level = q i .level;
+      auto = q i .auto;
+      turn = q i .turn;
       routes = ext-getD 0 (d .tree .bridge .routes) (e .tree .bridge .routes) (size 8) (λ j l. s (Bridge (Route j))) i;
     };
     gate = digit-same (d .tree .gate) (e .tree .gate) (s Gate) i;

@@ -111,4 +111,5 @@ ordered d h = record {
   writes = λ s l. listed-written viewed s d l (seen d h);
   acceptance = answers-stay viewed outcome by-rest d (seen d h);
   lines = λ ps qs q o. ap (λ (e : Device). firstFour (answeredOf e o .answer)) q;
+  turns = λ s l. ap (λ (r : Rest). r .turn) (listed-written viewed s d l (seen d h) .kept);
 }

@@ -72,12 +72,15 @@ get d c = wordAt cells d (place c)
 abbrev pub same : Cell → Cell → Bool
 same a b = samePlace (place a) (place b)
 
--- edge modes, latches, soft bits and input levels of the bridge's sources, edge choices and input levels of the node's, and the window switch
+-- edge modes, latches, soft bits, input levels, turn modes and turns of the bridge's sources, edge choices and input levels of the node's, and the
+-- window switch
 pub record Rest : Type 0 where
   pub edge : ℕ
   pub latch : ℕ
   pub soft : ℕ
   pub level : ℕ
+  pub auto : ℕ
+  pub turn : ℕ
   pub node-edge : ℕ
   pub node-level : ℕ
   pub window : Bool
@@ -91,6 +94,8 @@ rest d =
       latch = b .latch;
       soft = b .soft;
       level = b .level;
+      auto = b .auto;
+      turn = b .turn;
       node-edge = n .edge;
       node-level = n .level;
       window = d .«second_open»;

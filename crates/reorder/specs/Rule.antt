@@ -1,8 +1,9 @@
--- The order rule of the device (01, "Which writes the order rule covers"; request Q-2; demand 3).
+-- The order rule of the device (01, "Which writes the order rule covers"; requests Q-2 and Q-6; demand 3).
 --   OrderRule         all orders of a list of listed writes end in one state exactly when no two of them clash
 --   ListedWrites      a listed write gives just the bits that `gives` says, and touches no other
 --   AcceptanceStays   no write of the list alters whether another is accepted, or its number
 --   LinesAgree        where the end states agree, so do the first four lines
+--   TurnsStay         no listed write moves a turn bit (request Q-6)
 --   Ordered           all of these, of one device: what `compared` in src/ promises of every device
 --   viewOf            what is compared of a device: every cell but the latches of the node
 use mathlib.Core.Path.{_≡_}
@@ -52,8 +53,13 @@ LinesAgree d =
     (ps qs : List Step) → viewOf (run next ps d) ≡ viewOf (run next qs d)
     → (o : Outcome) → firstFour (answeredOf (run next ps d) o .answer) ≡ firstFour (answeredOf (run next qs d) o .answer)
 
+-- no listed write moves a turn bit: none takes a request of the bridge from 1 to 0
+abbrev pub TurnsStay : Device → Type 0
+TurnsStay d = (s : Step) → Listed d s → next s d .tree .bridge .turn ≡ d .tree .bridge .turn
+
 pub record Ordered (d : Device) : Type 0 where
   pub rule : OrderRule d
   pub writes : ListedWrites d
   pub acceptance : AcceptanceStays d
   pub lines : LinesAgree d
+  pub turns : TurnsStay d

@@ -7,6 +7,7 @@ use Prim.Native.Nat.{ℕ}
 use mathlib.Core.Bool.{Bool, cond, not, _&&_, _||_}
 use lib.ListN.{getD}
 use Rattle.bits.specs.Bits.{bit, word, some, first}
+use Rattle.turns.specs.Turns.{shownOn}
 use Rattle.bridge.specs.declared.Register.{Register}
 use Rattle.bridge.specs.declared.Register.the-variants.{IntMask, MsiEn, IntEdge, SoftInt, AutoCtrl0, AutoCtrl1, IntClr, IntIsrChip0, IntIsrChip1, IntIrr, RouteEntry}
 use Rattle.bridge.specs.declared.Chip.{Chip}
@@ -28,9 +29,12 @@ requestAt b i = cond (bit (b .edge) i) (bit (b .latch) i) (drive b i)
 abbrev pub pendingAt : Bridge → ℕ → Bool
 pendingAt b i = requestAt b i && (not (bit (b .mask) i) && not (bit (b .msi) i))
 
--- INTISR_CHIPk: and route bit k
+abbrev pub routeOf : Bridge → ℕ → ℕ
+routeOf b i = getD (b .routes) i 0
+
+-- INTISR_CHIPk: and route bit k, in turn mode with both route bits only at its turn (request Q-6)
 abbrev pub inService : Bridge → ℕ → ℕ → Bool
-inService b k i = pendingAt b i && bit (getD (b .routes) i 0) k
+inService b k i = pendingAt b i && shownOn (routeOf b i) (bit (b .auto) i) (bit (b .turn) i) k
 
 -- bridge output k: some bit of INTISR_CHIPk is 1
 unfoldable pub lineOf : Bridge → ℕ → Bool
@@ -57,13 +61,13 @@ readOf b IntMask = b .mask
 readOf b MsiEn = b .msi
 readOf b IntEdge = b .edge
 readOf b SoftInt = b .soft
-readOf b AutoCtrl0 = 0
+readOf b AutoCtrl0 = b .auto
 readOf b AutoCtrl1 = 0
 readOf b IntClr = 0  -- write only: no read is accepted
 readOf b IntIsrChip0 = inServiceWord b 0
 readOf b IntIsrChip1 = inServiceWord b 1
 readOf b IntIrr = requestWord b
-readOf b (RouteEntry source) = word 2 (bit (getD (b .routes) source 0))  -- bits 7..2 read 0
+readOf b (RouteEntry source) = word 2 (bit (routeOf b source))  -- bits 7..2 read 0
 
 -- ---- which source is it? (request Q-5)
 

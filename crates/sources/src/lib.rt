@@ -5,7 +5,7 @@ ghost use lib.Dec.{eqb};
 ghost use lib.ListN.{getD, set};
 ghost use Rattle.bits.specs.Bits.{bit, merge, word};
 ghost use Rattle.bridge.specs.Registers.{inServiceAt};
-ghost use Rattle.sources.specs.Sources.{driveWord, inServiceWord, linesOf, pendingAt, readOf, requestWord, whichOf};
+ghost use Rattle.sources.specs.Sources.{driveWord, linesOf, pendingAt, readOf, requestWord, whichOf};
 ghost use Rattle.sources.specs.Changes.{appliedOf, changedOf, inputOf, levelledOf, movedOf, settledOf};
 use access::Refusal;
 use answers::Outcome;
@@ -23,6 +23,8 @@ pub struct Bridge {
     pub latch: u64,
     pub soft: u64,
     pub level: u64,
+    pub auto: u64,
+    pub turn: u64,
     pub routes: [u8; 64],
 }
 
@@ -71,12 +73,6 @@ fn unmasked(request: u64, mask: u64, msi: u64) -> u64
     request & (!mask & !msi)
 }
 
-fn both(a: u64, b: u64) -> u64
-    ensures { λ r. ⌜ r ≡ word 64 (λ i. bit a i && bit b i) ⌝ }
-{
-    a & b
-}
-
 // What a search answers, by the number that it found: 64 where there is none.
 fn found(source: u64) -> Outcome
     ensures { λ r. ⌜ r ≡ cond (not (eqb source 64)) (Outcome.Value source) (Outcome.Refused Refusal.NoneInService) ⌝ }
@@ -108,12 +104,16 @@ impl Bridge {
         unmasked(self.requests(), self.mask, self.msi)
     }
 
-    // INTISR_CHIPk.
-    fn in_service(self, k: u8) -> u64
-        ensures { λ r. ⌜ r ≡ inServiceWord self k ⌝ }
+    // INTISR_CHIP0 or INTISR_CHIP1.
+    fn in_service(self, chip: Chip) -> u64
+        ensures { λ r. ⌜ r ≡ readOf self (inServiceAt chip) ⌝ }
     {
         let routes = self.routes;
-        both(self.pending(), lanes::gather(routes, k))
+        let pending = self.pending();
+        match chip {
+            Chip::Chip0 => turns::shown_on_0(routes, self.auto, self.turn, pending),
+            Chip::Chip1 => turns::shown_on_1(routes, self.auto, self.turn, pending),
+        }
     }
 
     // The two outputs, before the gate, output k as bit k: some source is in service for it.
@@ -121,7 +121,7 @@ impl Bridge {
         ensures { λ r. ⌜ r ≡ linesOf self ⌝ }
     {
         let routes = self.routes;
-        lanes::united(routes, self.pending())
+        turns::outputs(routes, self.auto, self.turn, self.pending())
     }
 
     // What a register reads as. No read of INTCLR is accepted.
@@ -134,23 +134,13 @@ impl Bridge {
             Register::MsiEn => self.msi,
             Register::IntEdge => self.edge,
             Register::SoftInt => self.soft,
-            Register::AutoCtrl0 => 0,
+            Register::AutoCtrl0 => self.auto,
             Register::AutoCtrl1 => 0,
             Register::IntClr => 0,
-            Register::IntIsrChip0 => self.in_service(0),
-            Register::IntIsrChip1 => self.in_service(1),
+            Register::IntIsrChip0 => self.in_service(Chip::Chip0),
+            Register::IntIsrChip1 => self.in_service(Chip::Chip1),
             Register::IntIrr => self.requests(),
             Register::RouteEntry(source) => route_read(route(routes, source)),
-        }
-    }
-
-    // INTISR_CHIP0 or INTISR_CHIP1.
-    fn in_service_at(self, chip: Chip) -> u64
-        ensures { λ r. ⌜ r ≡ readOf self (inServiceAt chip) ⌝ }
-    {
-        match chip {
-            Chip::Chip0 => self.in_service(0),
-            Chip::Chip1 => self.in_service(1),
         }
     }
 
@@ -158,7 +148,7 @@ impl Bridge {
     pub fn which(self, chip: Chip) -> Outcome
         ensures { λ r. ⌜ r ≡ whichOf self chip ⌝ }
     {
-        found(search::lowest(self.in_service_at(chip)))
+        found(search::lowest(self.in_service(chip)))
     }
 
     // The bridge after an effect of a plain write.
@@ -199,6 +189,10 @@ impl Bridge {
                 self.soft = value;
                 self
             }
+            Change::Auto(value) => {
+                self.auto = value;
+                self
+            }
             Change::Clear(value) => {
                 self.latch = bits::merge(self.latch, value, 0);
                 self
@@ -207,16 +201,24 @@ impl Bridge {
         }
     }
 
-    // What follows from a change: the edge-latch rule, from the modes and drives before it to those after it.
+    // What follows from a change: the edge-latch rule, from the modes and drives before it to those after it; then the turns, from the requests.
     fn settled(mut self, before: Bridge) -> Bridge
         ensures { λ r. ⌜ r ≡ settledOf before self ⌝ }
     {
+        let routes = self.routes;
         self.latch = bits::latched(
             before.edge,
             self.edge,
             before.drive(),
             self.drive(),
             self.latch,
+        );
+        self.turn = turns::turned(
+            routes,
+            self.auto,
+            self.turn,
+            before.requests(),
+            self.requests(),
         );
         self
     }

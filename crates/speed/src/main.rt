@@ -123,7 +123,8 @@ fn bridge_folded(sum: u64, bridge: Bridge) -> u64 {
     let enables = folded(folded(sum, bridge.mask), bridge.msi);
     let modes = folded(folded(enables, bridge.edge), bridge.latch);
     let drives = folded(folded(modes, bridge.soft), bridge.level);
-    routes_folded(drives, routes)
+    let turns = folded(folded(drives, bridge.auto), bridge.turn);
+    routes_folded(turns, routes)
 }
 
 // As many turns as for the bridge's routes, lest this loop be unrolled.

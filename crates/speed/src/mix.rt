@@ -19,8 +19,9 @@
 // 4 rows of 64 are refused; in MESSAGES 3 are, and the second window, closed an eighth of the time, makes up the fourth. A search finds no
 // source, and is refused, in a third of the cases in SPARSE and hardly ever in DENSE.
 // Counted over ten million steps (gcc -DCOUNTS): the gate is open for 0.87 of the steps of SPARSE and DENSE; pending are 2.2 sources in
-// SPARSE and 32.9 in DENSE, of which a walk that ends once both lines are high looks at 1.5 and 16. In TREE the gate is open as long, 1.9
-// sources of the bridge are pending, 6.3 of the node are enabled and 2.9 of those request; each pin is high for half of the steps.
+// SPARSE and 32.9 in DENSE, of which a walk that ends once both lines are high, sources in fixed mode first, looks at 1.5 and 9. In TREE the
+// gate is open as long, 1.9 sources of the bridge are pending, 6.3 of the node are enabled and 2.8 of those request; each pin is high for half
+// of the steps. In these three half of the sources are in turn mode; a turn bit moves in 3, 1.6 and 1.8 of a hundred steps.
 pub(crate) const SEED: u64 = 0xbfd0273b10a6d4af;
 
 // Messages only: every message register of both cores by every path and width, both sends with every byte mask.
@@ -159,7 +160,7 @@ pub(crate) const SPARSE_LAST: [[u64; 7]; 32] = [
     [5, 1, 0, 0, 0, 0x101010101010101, 0], // MSI_EN
     [5, 2, 0, 0, 0, 0x3333333333333333, 0], // INTEDGE
     [5, 3, 0, 0, 0, 0xfdfdfdfdfdfdfdfd, 0], // SOFT_INT
-    [5, 5, 0, 0, 0, 0, 0], // AUTO_CTRL1
+    [5, 4, 0, 0, 0, 0xffffffffffffffff, 0], // AUTO_CTRL0
     [5, 6, 0, 0, 0, 0xf0f0f0f0f0f0f0f, 0], // INTCLR
     [5, 10, 0, 0x3f, 0, 0xff, 0], // ROUTE_ENTRY
     [5, 10, 0, 0x3f, 0, 0xff, 0], // ROUTE_ENTRY
@@ -181,7 +182,7 @@ pub(crate) const SPARSE_LAST: [[u64; 7]; 32] = [
     [4, 6, 0, 0, 0, 0, 0], // read of INTCLR
     [1, 0, 0x1fe00420, 4, 4, 0xffffffff, 0x100000000], // value past width 4
     [6, 0, 0x40, 0x3f, 0, 1, 0], // source past 63
-    [5, 4, 0, 0, 0, 0xffffffffffffffff, 1], // AUTO_CTRL0
+    [5, 5, 0, 0, 0, 0xffffffffffffffff, 1], // AUTO_CTRL1
 ];
 
 // Half of all sources pending, the gate open.
@@ -199,7 +200,7 @@ pub(crate) const DENSE_LAST: [[u64; 7]; 32] = [
     [5, 1, 0, 0, 0, 0x101010101010101, 0], // MSI_EN
     [5, 2, 0, 0, 0, 0x3333333333333333, 0], // INTEDGE
     [5, 3, 0, 0, 0, 0xfdfdfdfdfdfdfdfd, 0], // SOFT_INT
-    [5, 5, 0, 0, 0, 0, 0], // AUTO_CTRL1
+    [5, 4, 0, 0, 0, 0xffffffffffffffff, 0], // AUTO_CTRL0
     [5, 6, 0, 0, 0, 0xf0f0f0f0f0f0f0f, 0], // INTCLR
     [5, 10, 0, 0x1f, 0, 0xfd, 0], // ROUTE_ENTRY
     [5, 10, 0x20, 0x1f, 0, 0xff, 0], // ROUTE_ENTRY
@@ -231,6 +232,7 @@ pub(crate) const TREE_LAST: [[u64; 7]; 32] = [
     [5, 0, 0, 0, 0, 0x8020040100804021, 0x7fdffbfeff7fbfde], // INT_MASK
     [5, 2, 0, 0, 0, 0x3333333333333333, 0], // INTEDGE
     [5, 3, 0, 0, 0, 0x3131313131313131, 0], // SOFT_INT
+    [5, 4, 0, 0, 0, 0xffffffffffffffff, 0], // AUTO_CTRL0
     [5, 6, 0, 0, 0, 0xf0f0f0f0f0f0f0f, 0], // INTCLR
     [5, 10, 0, 0x3f, 0, 0xff, 0], // ROUTE_ENTRY
     // Node reads.
@@ -247,7 +249,6 @@ pub(crate) const TREE_LAST: [[u64; 7]; 32] = [
     [3, 1, 0x142c, 0, 4, 0x11111111, 0], // Intenclr
     [3, 0, 0x1434, 0, 4, 0x33333333, 0], // Intedge
     [1, 0, 0x1fe01400, 0x1f, 1, 0xff, 0], // Entry
-    [1, 0, 0x3ff01400, 0x1f, 1, 0xff, 0], // Entry
     [3, 1, 0x1400, 0x1f, 1, 0xff, 0], // Entry
     // Any input of the bridge, and of the node but for sources 0 and 1, high or low.
     [6, 0, 0, 0x3f, 0, 1, 0],

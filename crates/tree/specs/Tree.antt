@@ -31,10 +31,10 @@ use Rattle.tree.specs.declared.Act.the-variants as act
 
 -- ---- the fresh state and the reset values
 
--- masks as given, everything else 0; the input levels, of the bridge and of the node, are outside wires
+-- masks as given, everything else 0, turn modes and turns too; the input levels, of the bridge and of the node, are outside wires
 unfoldable pub withLevels : ℕ → ℕ → ℕ → Tree
 withLevels mask level node-level = record {
-  bridge = record { mask = mask; msi = 0; edge = 0; latch = 0; soft = 0; level = level; routes = replicate 64 0 };
+  bridge = record { mask = mask; msi = 0; edge = 0; latch = 0; soft = 0; level = level; auto = 0; turn = 0; routes = replicate 64 0 };
   gate = false;
   node = record { enable = 0; edge = 0; latch = 0; level = node-level; routes = replicate 32 0 };
 }

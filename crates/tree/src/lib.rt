@@ -91,6 +91,8 @@ impl Tree {
                 latch: 0,
                 soft: 0,
                 level: level,
+                auto: 0,
+                turn: 0,
                 routes: [0; 64],
             },
             gate: false,

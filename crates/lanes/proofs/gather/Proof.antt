@@ -1,49 +1,41 @@
--- `lanes::gather` meets its contract: after i turns the result is the word of the first i bits.
-use mathlib.Core.Path.{_≡_, refl}
-use Prim.Native.Nat.{_≤_, _<_, _-_}
+-- `lanes::gather` meets its contract, by the laws of `Rest`: each byte gives its own bit.
+use mathlib.Core.Path.{_∙_}
+use mathlib.Core.Bool.{_&&_}
+use lib.Dec.{eqb}
 use lib.ListN.{getD}
-use native.Mathlib.Omega.{arith}
 use borrow.Author.Needs.{needs}
-use Rattle.bits.specs.Bits.{bit, word}
+use Rattle.bits.specs.Bits.{bit}
+use Rattle.bits.proofs.Words.{word-cong}
 use Rattle.lanes.specs.Bytes.{gathered}
-use Rattle.bits.proofs.Operations.{push}
+use Rattle.lanes.proofs.LowestBit.{first-set, clear-less}
+use Rattle.lanes.proofs.Rest.{Rest, own, placed, rest-start, rest-next, rest-none}
 use Rattle.lanes.proofs.gather.Statement.{statement}
 use Rattle.lanes.proofs.gather.Tie as tie
 
 abbrev Inv-loop : tie.InvT-loop
-Inv-loop k all r₀ i₀ r i = (i ≤ 64) × (r ≡ word i (λ i. bit (getD all i 0) k))
+Inv-loop which k all w₀ r₀ w r = Rest 64 64 (λ i j. eqb j i && bit (getD all i 0) k) which w r
 
 abbrev μ-loop : tie.MeasureT-loop
-μ-loop k all r₀ i₀ r i = 64 - i
-
-loop-holds : tie.Need-loop-holds Inv-loop μ-loop
-unfolding word
-loop-holds c = (search needs, refl)
-
-loop-again : tie.Need-loop-again Inv-loop μ-loop
-loop-again c =
-    let h : c .before .before .loop .i < 64 = omega arith
-    in (search needs, rw (c .before .before .loop .inv .1, c .test .ensures) (push 64 _ _ h))
-
-returns : tie.Need-returns Inv-loop μ-loop
-unfolding gathered
-returns c =
-    let e : c .before .loop .i ≡ 64 = omega arith
-    in rw (← e) (c .before .loop .inv .1)
+μ-loop which k all w₀ r₀ w r = w
 
 pub gather-spec : {M : Type 1} → statement M
+unfolding gathered
 gather-spec =
     tie.close
     (tie.spec
     Inv-loop
     μ-loop
-    loop-holds
-    (λ c. search needs)
-    (λ c. search needs)
-    (λ c κs. search needs)
-    (λ c. search needs)
-    (λ c. search needs)
-    (λ c. search needs)
-    (λ c. search needs)
-    loop-again
-    returns)
+    (λ c. rest-start (c .fits .which .fits))  -- loop-holds
+    (λ c κs. search needs)  -- lowest-requires
+    (λ c. search needs)  -- cast-test
+    (λ c. rw (c .lowest .ensures) (first-set 64 (c .before .before .loop .inv .left) (c .before .loop-test .taken) .0))  -- array-read-test
+    (λ c. search needs)  -- cast-test-2
+    (λ c κs. search needs)  -- test-requires
+    (λ c. search needs)  -- cast-r
+    (λ c. search needs)  -- cast-r-2
+    (λ c. rw (c .before .lowest .ensures) (first-set 64 (c .before .before .before .loop .inv .left) (c .before .before .loop-test .taken) .0))  -- shl-r
+    (λ c κs. search needs)  -- clear-lowest-requires
+    (λ c. rw (c .clear-lowest .ensures) (clear-less 64 (c .before .before .before .before .loop .inv .left) (c .before .before .before .loop-test .taken)))  -- loop-less
+    (λ c. rw (c .clear-lowest .ensures, c .before .test .ensures) (rest-next (c .before .before .before .before .loop .inv) (c .before .before .before .loop-test .taken) (rw (c .before .before .lowest .ensures) (placed 64 _ _))))  -- loop-again
+    (λ c. rest-none (c .before .loop .inv) (c .loop-test .left) ∙ word-cong 64 (λ j h. own 64 j (bit (c .before .before .args .which)) _ h))  -- returns
+    )

@@ -7,7 +7,7 @@ use Rattle.bits.specs.Bits.{bit}
 use Rattle.bits.proofs.Words.{word-mod}
 use Rattle.lanes.specs.Bytes.{united}
 use Rattle.lanes.proofs.LowestBit.{first-set, clear-less}
-use Rattle.lanes.proofs.Rest.{Rest, rest-start, rest-turn, rest-none, rest-full}
+use Rattle.lanes.proofs.Rest.{Rest, rest-start, rest-next, rest-none, rest-full}
 use Rattle.lanes.proofs.united.Statement.{statement}
 use Rattle.lanes.proofs.united.Tie as tie
 
@@ -29,7 +29,7 @@ loop-less c =
 loop-again : tie.Need-loop-again Inv-loop μ-loop
 loop-again c =
     rw (c .clear-lowest .ensures, c .before .lowest .ensures)
-    (rest-turn (c .before .before .before .before .loop .inv) (c .before .before .before .loop-test .taken) (sym (word-mod 2 _)))
+    (rest-next (c .before .before .before .before .loop .inv) (c .before .before .before .loop-test .taken) (sym (word-mod 2 _)))
 
 pub united-spec : {M : Type 1} → statement M
 unfolding united

@@ -5,7 +5,7 @@ use lib.ListN.{getD}
 use borrow.Author.Needs.{needs}
 use Rattle.bits.specs.Bits.{bit}
 use Rattle.lanes.proofs.LowestBit.{first-set, clear-less}
-use Rattle.lanes.proofs.Rest.{Rest, rest-start, rest-turn, rest-none}
+use Rattle.lanes.proofs.Rest.{Rest, rest-start, rest-next, rest-none}
 use Rattle.routes.specs.Routes.{linesOf}
 use Rattle.routes.proofs.lines.Statement.{statement}
 use Rattle.routes.proofs.lines.Tie as tie
@@ -30,5 +30,5 @@ lines-spec =
     (λ c κs. search needs)  -- reached-requires
     (λ c κs. search needs)  -- clear-lowest32-requires
     (λ c. rw (c .clear-lowest32 .ensures) (clear-less 32 (c .before .before .before .before .loop .inv .left) (c .before .before .before .loop-test .taken)))  -- loop-less
-    (λ c. rw (c .clear-lowest32 .ensures) (rest-turn (c .before .before .before .before .loop .inv) (c .before .before .before .loop-test .taken) (rw (← c .before .before .lowest32 .ensures) (c .before .reached .ensures))))  -- loop-again
+    (λ c. rw (c .clear-lowest32 .ensures) (rest-next (c .before .before .before .before .loop .inv) (c .before .before .before .loop-test .taken) (rw (← c .before .before .lowest32 .ensures) (c .before .reached .ensures))))  -- loop-again
     (λ c. rest-none (c .before .loop .inv) (c .loop-test .left)))  -- returns

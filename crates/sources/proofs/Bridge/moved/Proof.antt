@@ -12,10 +12,12 @@ moved-spec =
     (λ c. search needs)  -- enum-known-change
     (λ c. search needs)  -- enum-known-change-2
     (λ c. search needs)  -- enum-known-change-3
+    (λ c. search needs)  -- enum-known-change-4
     (λ c κs. search needs)  -- merge-requires
     (λ c. search needs)  -- enum-told
     (λ c. search (tests, c .before .change .given .1))  -- returns
     (λ c. search (tests, c .before .change2 .given .1))  -- returns-2
-    (λ c. search (tests, ← c .merge .ensures, c .before .before .change3 .given .1))  -- returns-3
-    (λ c. search (tests, c .enum-told .given .1))  -- returns-4
+    (λ c. search (tests, c .before .change3 .given .1))  -- returns-3
+    (λ c. search (tests, ← c .merge .ensures, c .before .before .change4 .given .1))  -- returns-4
+    (λ c. search (tests, c .enum-told .given .1))  -- returns-5
     )

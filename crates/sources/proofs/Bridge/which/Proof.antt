@@ -9,8 +9,8 @@ unfolding whichOf
 which-spec =
     tie.close
     (tie.spec
-    (λ c κs. search needs)  -- in-service-at-requires
+    (λ c κs. search needs)  -- in-service-requires
     (λ c κs. search needs)  -- lowest-requires
     (λ c κs. search needs)  -- found-requires
-    (λ c. rw (c .found .ensures, c .before .lowest .ensures, c .before .before .in-service-at .ensures, some-first 64 _))  -- returns
+    (λ c. rw (c .found .ensures, c .before .lowest .ensures, c .before .before .in-service .ensures, some-first 64 _))  -- returns
     )

@@ -1,6 +1,6 @@
 use Rattle.bits.proofs.Operations.{words64}
-use Rattle.sources.proofs.both.Statement.{statement}
-use Rattle.sources.proofs.both.Tie as tie
+use Rattle.turns.proofs.both.Statement.{statement}
+use Rattle.turns.proofs.both.Tie as tie
 
 pub both-spec : {M : Type 1} → statement M
 both-spec =
