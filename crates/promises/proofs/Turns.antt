@@ -1,7 +1,7 @@
 -- The promises of specs/Turns hold of the definition that `step` equals.
 use Prim.Native.Nat.{ℕ, _<_}
 use mathlib.Core.Path.{_≡_, refl, sym, _∙_}
-use mathlib.Core.Bool.{Bool, true, false, cond, not, _&&_, true≢false}
+use mathlib.Core.Bool.{Bool, true, false, not, _&&_, true≢false}
 use mathlib.Core.List.{List, [], _∷_}
 use lib.Dec.{eqb}
 use borrow.Table.Steps.{cases}
@@ -15,7 +15,7 @@ use Rattle.bridge.specs.declared.Cell.the-variants.{Mask, Msi, Route}
 use Rattle.bridge.specs.declared.Change.{Change}
 use Rattle.bridge.specs.declared.Change.the-variants.{Modes, Soft, Auto, Clear, Nothing}
 use Rattle.bridge.specs.declared.Chip.the-variants.{Chip0, Chip1}
-use Rattle.turns.specs.Turns.{nextTurn, turnsOf}
+use Rattle.turns.specs.Turns.{turnsOf}
 use Rattle.sources.specs.declared.Bridge.{Bridge}
 use Rattle.sources.specs.Sources as sources
 use Rattle.sources.specs.Changes as changes
@@ -23,9 +23,11 @@ use Rattle.tree.specs.declared.Write.the-variants as write
 use Rattle.tree.specs.declared.Change.the-variants as change
 use Rattle.tree.specs.Tree as tree
 use Rattle.steps.specs.declared.Step.{Step}
+use Rattle.steps.specs.declared.Step.the-variants as step
 use Rattle.steps.specs.declared.Plan.{Plan}
 use Rattle.steps.specs.declared.Plan.the-variants.{Refuse, ReadCore, WriteCore, ReadTree, WriteTree, ChangeTree, Window, Reset}
 use Rattle.steps.specs.Decide.{decideOf}
+use Rattle.steps.proofs.Resets.{only-reset}
 use Rattle.device.specs.declared.Device.{Device}
 use Rattle.device.specs.Device.{answeredOf, resetOf, startOf}
 use Rattle.device.specs.Step.{nextOf, stepOf}
@@ -36,14 +38,11 @@ use Rattle.promises.proofs.Promises.{and-parts, reads}
 -- ---- the turn bits
 
 -- a request that is as it was does not fall
-no-fall : (auto request next turn : Bool) → turn ≡ cond (auto && (request && not request)) next turn
-no-fall = taut 4 _ _ tt
+no-fall : (auto request : Bool) → (auto && (request && not request)) ≡ false
+no-fall = taut 2 _ _ tt
 
 unmoved : (b e : Bridge) (i : ℕ) → sources.requestAt e i ≡ sources.requestAt b i → e .turn ≡ b .turn → Turned b e i
-unmoved b e i q t =
-    rw (q, t)
-    (no-fall (bit (e .auto) i) (sources.requestAt b i) (nextTurn (bit (sources.routeOf e i) 0) (bit (sources.routeOf e i) 1) (bit (b .turn) i))
-    (bit (b .turn) i))
+unmoved b e i q t = rw (q, t, no-fall)
 
 still : (b : Bridge) (i : ℕ) → Turned b b i
 still b i = unmoved b b i refl refl
@@ -84,7 +83,7 @@ planned d Reset i h n = absurd (n refl)
 
 pub turn-bits : TurnBits
 unfolding stepOf answeredOf
-turn-bits d s i h n = planned d (decideOf (d .«second_open») s) i h n
+turn-bits d s i h n = planned d (decideOf (d .«second_open») s) i h (λ e. n (only-reset _ s e))
 
 pub reset-turns : ResetTurns
 unfolding stepOf answeredOf decideOf nextOf resetOf startOf tree.resetOf tree.withLevels
@@ -109,8 +108,8 @@ one-word d i t =
 -- ---- in turn
 
 -- after a reset no source is in turn mode
-no-reset : (d : Device) (s : Step) (i : ℕ) → Alternating (bridge (next s d)) i → decideOf (d .«second_open») s ≡ Reset → ⊥
-unfolding stepOf answeredOf nextOf resetOf startOf tree.resetOf tree.withLevels
+no-reset : (d : Device) (s : Step) (i : ℕ) → Alternating (bridge (next s d)) i → s ≡ step.Reset → ⊥
+unfolding stepOf answeredOf decideOf nextOf resetOf startOf tree.resetOf tree.withLevels
 no-reset d s i a e = true≢false (sym (rw e at (a .mode)) ∙ bit-zero i)
 
 -- the turn moves on at a fall, and stays where there is none

@@ -18,8 +18,6 @@ use Rattle.sources.specs.declared.Bridge.{Bridge}
 use Rattle.sources.specs.Sources.{pendingAt, requestAt, routeOf}
 use Rattle.steps.specs.declared.Step.{Step}
 use Rattle.steps.specs.declared.Step.the-variants as step
-use Rattle.steps.specs.declared.Plan.the-variants.{Reset}
-use Rattle.steps.specs.Decide.{decideOf}
 use Rattle.device.specs.declared.Device.{Device}
 use Rattle.device.specs.Step.{stepOf}
 use Rattle.promises.specs.Promises.{Alternating}
@@ -42,8 +40,7 @@ Turned b e i =
 
 -- by any step but a reset
 abbrev pub TurnBits : Type 0
-TurnBits =
-    (d : Device) (s : Step) (i : ℕ) → i < 64 → (decideOf (d .«second_open») s ≡ Reset → ⊥) → Turned (bridge d) (bridge (next s d)) i
+TurnBits = (d : Device) (s : Step) (i : ℕ) → i < 64 → (s ≡ step.Reset → ⊥) → Turned (bridge d) (bridge (next s d)) i
 
 -- a reset is no fall: it makes every turn bit 0, whatever fell
 abbrev pub ResetTurns : Type 0

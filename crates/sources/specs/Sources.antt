@@ -29,6 +29,7 @@ requestAt b i = cond (bit (b .edge) i) (bit (b .latch) i) (drive b i)
 abbrev pub pendingAt : Bridge → ℕ → Bool
 pendingAt b i = requestAt b i && (not (bit (b .mask) i) && not (bit (b .msi) i))
 
+-- its route byte (ROUTE_ENTRY)
 abbrev pub routeOf : Bridge → ℕ → ℕ
 routeOf b i = getD (b .routes) i 0
 

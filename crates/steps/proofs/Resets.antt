@@ -1,0 +1,81 @@
+-- Of all steps only a reset is planned as one.
+use Prim.Native.Nat.{ℕ}
+use mathlib.Core.Path.{_≡_, refl, sym, ap, _∙_}
+use mathlib.Core.Bool.{Bool, true, false, true≢false}
+use Rattle.access.specs.declared.Verdict.{Verdict}
+use Rattle.access.specs.declared.Verdict.the-variants as verdict
+use Rattle.access.specs.Refusal.{firstOf}
+use Rattle.windows.specs.declared.Place.{Place}
+use Rattle.windows.specs.declared.Place.the-variants.{Message, Node, Gate, GateHigh}
+use Rattle.admission.specs.declared.Admission.{Admission}
+use Rattle.admission.specs.declared.Admission.the-variants.{Refused, At}
+use Rattle.admission.specs.Refusals.{bridgeRefusals, inputRefusals, nodeInputRefusals}
+use Rattle.bridge.specs.declared.Written.{Written}
+use Rattle.bridge.specs.declared.Written.the-variants.{Plain, Changed}
+use Rattle.bridge.specs.Registers.{writtenOf}
+use Rattle.node.specs.declared.Written as node
+use Rattle.node.specs.declared.Written.the-variants as written
+use Rattle.node.specs.Effect as nodes
+use Rattle.steps.specs.declared.Step.{Step}
+use Rattle.steps.specs.declared.Step.the-variants as step
+use Rattle.steps.specs.declared.Plan.{Plan}
+use Rattle.steps.specs.declared.Plan.the-variants.{Refuse, ReadCore, WriteCore, ReadTree, WriteTree, ChangeTree, Window, Reset}
+use Rattle.steps.specs.Decide.{accessPlan, admittedPlan, bridgePlan, decideOf, inputPlan, nodeInputPlan, nodePlan, planned, readPlan, writePlan, writtenPlan}
+
+-- whether a plan is `Reset`; of each that an access, a bridge step or an input change can have, it says no
+abbrev resets : Plan → Bool
+resets (Refuse reason) = false
+resets (ReadCore register core width) = false
+resets (ReadTree read) = false
+resets (WriteCore effect core) = false
+resets (WriteTree write) = false
+resets (ChangeTree change) = false
+resets (Window on) = false
+resets Reset = true
+
+node-plan : (w : node.Written) → resets (nodePlan w) ≡ false
+unfolding nodePlan
+node-plan (written.Plain effect) = refl
+node-plan (written.Changed c) = refl
+
+access-plan : (place : Place) (width : ℕ) (write : Bool) (value : ℕ) → resets (accessPlan place width write value) ≡ false
+unfolding accessPlan readPlan writePlan
+access-plan (Message register core) width true value = refl
+access-plan (Node register) width true value = node-plan (nodes.writtenOf register value)
+access-plan Gate width true value = refl
+access-plan GateHigh width true value = refl
+access-plan (Message register core) width false value = refl
+access-plan (Node register) width false value = refl
+access-plan Gate width false value = refl
+access-plan GateHigh width false value = refl
+
+admitted-plan : (a : Admission) (width : ℕ) (write : Bool) (value : ℕ) → resets (admittedPlan a width write value) ≡ false
+unfolding admittedPlan
+admitted-plan (Refused reason) width write value = refl
+admitted-plan (At place) width write value = access-plan place width write value
+
+written-plan : (w : Written) → resets (writtenPlan w) ≡ false
+unfolding writtenPlan
+written-plan (Plain effect) = refl
+written-plan (Changed c) = refl
+
+judged : (v : Verdict) (p : Plan) → resets p ≡ false → resets (planned v p) ≡ false
+judged verdict.Accepted p e = e
+judged (verdict.Refused reason) p e = refl
+
+other-plan : {A : Type 0} (p : Plan) → resets p ≡ false → p ≡ Reset → A
+other-plan p f e = absurd (true≢false (sym (ap resets e) ∙ f))
+
+pub only-reset : (opened : Bool) (s : Step) → decideOf opened s ≡ Reset → s ≡ step.Reset
+unfolding decideOf bridgePlan inputPlan nodeInputPlan
+only-reset opened (step.BusRead a width) = other-plan _ (admitted-plan _ _ _ _)
+only-reset opened (step.BusWrite a width value) = other-plan _ (admitted-plan _ _ _ _)
+only-reset opened (step.PrivateRead core offset width) = other-plan _ (admitted-plan _ _ _ _)
+only-reset opened (step.PrivateWrite core offset width value) = other-plan _ (admitted-plan _ _ _ _)
+only-reset opened (step.BridgeRead register) = other-plan _ (judged (firstOf (bridgeRefusals register false 0)) _ refl)
+only-reset opened (step.BridgeWrite register value) = other-plan _ (judged (firstOf (bridgeRefusals register true value)) _ (written-plan (writtenOf register value)))
+only-reset opened (step.Input source level) = other-plan _ (judged (firstOf (inputRefusals source)) _ refl)
+only-reset opened (step.NodeInput source level) = other-plan _ (judged (firstOf (nodeInputRefusals source)) _ refl)
+only-reset opened (step.Which chip) = other-plan _ refl
+only-reset opened (step.Window on) = other-plan _ refl
+only-reset opened step.Reset = λ e. refl
