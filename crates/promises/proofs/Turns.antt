@@ -1,6 +1,6 @@
 -- The promises of specs/Turns hold of the definition that `step` equals.
 use Prim.Native.Nat.{ℕ, _<_}
-use mathlib.Core.Path.{_≡_, refl, sym, _∙_}
+use mathlib.Core.Path.{_≡_, refl, sym, ap, _∙_}
 use mathlib.Core.Bool.{Bool, true, false, not, _&&_, true≢false}
 use mathlib.Core.List.{List, [], _∷_}
 use lib.Dec.{eqb}
@@ -144,4 +144,4 @@ other-word d s ss i t a down steady pending =
     let moved = k .turn ∙ falls d s i (t .there) a (and-parts _ _ (t .pending) .0) down in
     let before = one-word d i t in
     let after = one-word (run next ss (next s d)) i (record { there = t .there; alternates = k .alternates; pending = pending }) in
-    (after .0 ∙ rw (moved, before .1) (twice (bit (bridge d .turn) i)), after .1 ∙ rw (moved, before .0))
+    (after .0 ∙ ap not moved ∙ twice (bit (bridge d .turn) i) ∙ sym (before .1), after .1 ∙ moved ∙ sym (before .0))

@@ -1,5 +1,5 @@
 -- `shown` meets its contract: computed at each of the 256 routes.
-use Prim.Native.Nat.{ℕ, _+_, _%_, _<_}
+use Prim.Native.Nat.{ℕ, _+_, _%_, _<_, _≤_}
 use mathlib.Core.Path.{_≡_, refl}
 use mathlib.Core.Bool.{Bool, true, false, cond}
 use native.Mathlib.Omega.{arith}
@@ -24,13 +24,19 @@ same true false = agree-below 256 (byCases true false) (λ route. word 2 (shownO
 same false true = agree-below 256 (byCases false true) (λ route. word 2 (shownOn route false true)) refl
 same false false = agree-below 256 (byCases false false) (λ route. word 2 (shownOn route false false)) refl
 
+one-route : (auto turn : Bool) (route : ℕ) → route < 256 → route % 4 < 3 → route % 4 ≡ word 2 (shownOn route auto turn)
+one-route auto turn route h l = rw (lt-ltb _ 3 l) at (same auto turn route h)
+
+both-routes : (auto turn : Bool) (route : ℕ) → route < 256 → 3 ≤ route % 4 → cond auto (1 + digit turn) 3 ≡ word 2 (shownOn route auto turn)
+both-routes auto turn route h l = rw (le-ltb _ 3 l) at (same auto turn route h)
+
 pub shown-spec : {M : Type 1} → statement M
 shown-spec =
     tie.close
     (tie.spec
-    (λ c. rw (lt-ltb _ 3 (c .if1 .taken)) at (same (c .before .args .auto) (c .before .args .turn) (c .before .args .route) (c .before .fits .route .fits)))  -- returns
+    (λ c. one-route (c .before .args .auto) (c .before .args .turn) _ (c .before .fits .route .fits) (c .if1 .taken))  -- returns
     (λ c. search needs)  -- cast-result
     (λ c. fits-below {n = 2} tt (omega (arith, digit-lt (c .before .before .args .turn))))  -- add-result
-    (λ c. rw (c .if2 .taken) (rw (le-ltb _ 3 (c .before .if1 .left)) at (same true (c .before .before .args .turn) (c .before .before .args .route) (c .before .before .fits .route .fits))))  -- returns-2
-    (λ c. rw (c .if2 .left) (rw (le-ltb _ 3 (c .before .if1 .left)) at (same false (c .before .before .args .turn) (c .before .before .args .route) (c .before .before .fits .route .fits))))  -- returns-3
+    (λ c. rw (c .if2 .taken) (both-routes true (c .before .before .args .turn) _ (c .before .before .fits .route .fits) (c .before .if1 .left)))  -- returns-2
+    (λ c. rw (c .if2 .left) (both-routes false (c .before .before .args .turn) _ (c .before .before .fits .route .fits) (c .before .if1 .left)))  -- returns-3
     )
