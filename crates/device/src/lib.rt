@@ -167,7 +167,7 @@ impl Device {
     }
 
     // The outcome beside the lines.
-    fn answered(self, outcome: Outcome) -> Stepped
+    pub fn answered(self, outcome: Outcome) -> Stepped
         ensures { λ r. ⌜ r ≡ answeredOf self outcome ⌝ }
     {
         let core0 = self.core0;

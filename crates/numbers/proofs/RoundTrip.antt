@@ -67,11 +67,11 @@ module _ (base : ℕ) (more : 1 < base) (most : base ≤ 16) where
       ))
       (below n base)
 
-  formed-digits : (n : ℕ) → formed base false (digitsOf base n) ≡ true
+  pub formed-digits : (n : ℕ) → formed base false (digitsOf base n) ≡ true
   unfolding digitsOf formed
   formed-digits n = ap (formed base false) (sym (append-nil (digitsOf base n))) ∙ reads (suc n) n [] (omega arith) .0
 
-  number-digits : (n : ℕ) → n < 2 ^ 64 → numberIn base (digitsOf base n) ≡ Value n
+  pub number-digits : (n : ℕ) → n < 2 ^ 64 → numberIn base (digitsOf base n) ≡ Value n
   unfolding digitsOf valueFrom numberIn
   number-digits n h =
       rw (formed-digits n)

@@ -22,8 +22,15 @@ pub fn parse_number(s: &[u8]) -> Number
     if marked(s) {
         parse_digits(s, 2, 16)
     } else {
-        parse_digits(s, 0, 10)
+        parse_decimal(s, 0)
     }
+}
+
+// The number that the decimal digits from a place on write.
+pub fn parse_decimal(s: &[u8], from: usize) -> Number
+    ensures { λ r. ⌜ r ≡ numberIn 10 (drop from (now (s .entry))) ⌝ }
+{
+    parse_digits(s, from, 10)
 }
 
 // Whether a text begins with `0x`.

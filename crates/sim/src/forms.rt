@@ -1,5 +1,6 @@
 // The forms of a line by their numbers, which are those of the entries of the tables in put_form and in parse.rt: first those of a step,
-// which are script's, then those of the other lines, then those that are open, of lines whose first words begin no one form.
+// which are script's but for the last, a replay, then those of the other lines, then those that are open, of lines whose first words begin no
+// one form.
 use crate::counts::more;
 use crate::words::entry;
 use crate::words::find;
@@ -14,34 +15,36 @@ use script::WINDOW_OPEN;
 use text::put;
 use text::same;
 
-pub(crate) const EXPECT_VALUE: u64 = 14;
+pub(crate) const REPLAY: u64 = 14;
 
-pub(crate) const EXPECT_REFUSED: u64 = 15;
+pub(crate) const EXPECT_VALUE: u64 = 15;
 
-pub(crate) const EXPECT_LINES: u64 = 16;
+pub(crate) const EXPECT_REFUSED: u64 = 16;
 
-pub(crate) const REORDER_BEGIN: u64 = 17;
+pub(crate) const EXPECT_LINES: u64 = 17;
 
-pub(crate) const REORDER_END: u64 = 18;
+pub(crate) const REORDER_BEGIN: u64 = 18;
+
+pub(crate) const REORDER_END: u64 = 19;
 
 // Open: any form, and those whose first word is known, or two of them.
-pub(crate) const ANY: u64 = 19;
+pub(crate) const ANY: u64 = 20;
 
-const BUS: u64 = 20;
+const BUS: u64 = 21;
 
-const CORE: u64 = 21;
+const CORE: u64 = 22;
 
-const BRIDGE: u64 = 22;
+const BRIDGE: u64 = 23;
 
-const REGISTER: u64 = 23;
+const REGISTER: u64 = 24;
 
-const NODE: u64 = 24;
+const NODE: u64 = 25;
 
-const WINDOW: u64 = 25;
+const WINDOW: u64 = 26;
 
-const REORDER: u64 = 26;
+const REORDER: u64 = 27;
 
-pub(crate) const BLANK: u64 = 27;
+pub(crate) const BLANK: u64 = 28;
 
 // Puts the text of a form.
 pub(crate) fn put_form(out: &mut [u8], at: usize, form: u64) -> usize {
@@ -60,12 +63,13 @@ which CHIP, where CHIP is 0 or 1
 window open
 window closed
 reset
+replay CAPTURE DUMP
 expect VALUE, expect refused N or expect lines BITS
 expect refused N
 expect lines BITS, where BITS is four or twelve flags, each 0 or 1
 reorder begin
 reorder end
-bus, core, bridge, input, node, which, window, reset, expect or reorder
+bus, core, bridge, input, node, which, window, reset, replay, expect or reorder
 bus read or bus write
 core C read or core C write
 bridge read or bridge write
@@ -124,7 +128,7 @@ fn node_form(second: &[u8]) -> u64 {
 // The form that a line begins with its first three words, of which the third may name a register.
 pub(crate) fn form_of(first: &[u8], second: &[u8], third: &[u8], register: u64) -> u64 {
     match find(
-        b"bus core bridge input node which window reset expect reorder",
+        b"bus core bridge input node which window reset replay expect reorder",
         first,
     ) {
         0 => either(second, b"read write", BUS_READ, BUS),
@@ -135,8 +139,9 @@ pub(crate) fn form_of(first: &[u8], second: &[u8], third: &[u8], register: u64) 
         5 => WHICH,
         6 => either(second, b"open closed", WINDOW_OPEN, WINDOW),
         7 => RESET,
-        8 => either(second, b"refused lines", EXPECT_REFUSED, EXPECT_VALUE),
-        9 => either(second, b"begin end", REORDER_BEGIN, REORDER),
+        8 => REPLAY,
+        9 => either(second, b"refused lines", EXPECT_REFUSED, EXPECT_VALUE),
+        10 => either(second, b"begin end", REORDER_BEGIN, REORDER),
         _ => ANY,
     }
 }

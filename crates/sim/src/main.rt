@@ -1,25 +1,20 @@
 // Runs step scripts: `sim FILE...` each file on a fresh device, `sim` alone its standard input.
 mod block;
 mod counts;
+mod files;
 mod forms;
 mod lines;
 mod output;
 mod parse;
 mod print;
+mod replay;
 mod run;
 mod words;
 
+use files::unread;
 use libc::STDIN_FILENO;
 use output::flush;
-use print::DENIED;
-use print::DIRECTORY;
-use print::FAULT;
 use print::HEADER;
-use print::LINKS;
-use print::LONG_NAME;
-use print::NO_DIRECTORY;
-use print::NO_FILE;
-use print::UNREAD;
 use print::put_error;
 use print::put_line;
 use run::Run;
@@ -80,22 +75,8 @@ fn closed(chunk: &mut [u8], got: isize, held: usize) -> usize {
     io::count(got, chunk)
 }
 
-// The line for a file that cannot be read.
-fn unread(error: i32) -> u64 {
-    match error {
-        libc::ENOENT => NO_FILE,
-        libc::EACCES => DENIED,
-        libc::EISDIR => DIRECTORY,
-        libc::ENOTDIR => NO_DIRECTORY,
-        libc::ENAMETOOLONG => LONG_NAME,
-        libc::ELOOP => LINKS,
-        libc::EIO => FAULT,
-        _ => UNREAD,
-    }
-}
-
 fn put_unread(out: &mut [u8], at: usize, name: &[u8], error: i32) -> usize {
-    put_error(out, at, unread(error), [0; 5], name)
+    put_error(out, at, unread(error), 0, name)
 }
 
 // The place in the output after a read: the header comes with the first, and a line says where one failed.

@@ -63,7 +63,7 @@ fn lines(flags: u64) -> Value {
     right(flags)
 }
 
-// The value of a word of a kind: n a number, b a number that is 0 or 1, f flags; a fixed word has the value that is held for its place.
+// The value of a word of a kind: n a number, b a number that is 0 or 1, f flags; any other word has the value that is held for its place.
 fn value_of(kind: u8, word: &[u8], held: u64) -> Value {
     match kind {
         b'n' => number(word),
@@ -117,7 +117,7 @@ fn count_error(form: u64, count: usize, letters: usize) -> u64 {
     NONE
 }
 
-// The values of a line of a form whose shape has a letter for each word: w a fixed word, and the kinds of value_of.
+// The values of a line of a form whose shape has a letter for each word: w a fixed word or a file's name, and the kinds of value_of.
 fn shaped(s: &[u8], words: Words, shape: &[u8], values: [u64; 7]) -> Line {
     let error = count_error(values[0], words.count, shape.len());
     if error != NONE {
@@ -134,7 +134,6 @@ fn parse_words(s: &[u8], words: Words, line: u64) -> Line {
     let third = word(s, words, 2);
     let register = register_named(third);
     let form = form_of(word(s, words, 0), word(s, words, 1), third, register);
-    let values = [form, 0, register, 0, 0, 0, line];
     // Of a form that is open the words that are known: of ANY none.
     let shape = entry(
         b"wwnn
@@ -151,6 +150,7 @@ wb
 ww
 ww
 w
+www
 wn
 wwn
 wwf
@@ -167,7 +167,7 @@ w
 ",
         form,
     );
-    shaped(s, words, shape, values)
+    shaped(s, words, shape, [form, 0, register, 0, 0, 0, line])
 }
 
 fn textless(error: u64, line: u64) -> Line {

@@ -14,44 +14,49 @@ pub(crate) const OK: u64 = 1;
 
 pub(crate) const REFUSED: u64 = 2;
 
-pub(crate) const MET: u64 = 3;
+// A replay that is accepted, and one that is refused, with the place in the capture.
+pub(crate) const REPLAYED: u64 = 3;
+
+pub(crate) const REFUSED_AT: u64 = 4;
+
+pub(crate) const MET: u64 = 5;
 
 // An expectation that is not met: its words, and those of what was got.
-pub(crate) const FAILED_VALUE: u64 = 4;
+pub(crate) const FAILED_VALUE: u64 = 6;
 
-pub(crate) const FAILED_VALUE_REFUSED: u64 = 5;
+pub(crate) const FAILED_VALUE_REFUSED: u64 = 7;
 
-pub(crate) const FAILED_REFUSED_VALUE: u64 = 6;
+pub(crate) const FAILED_REFUSED_VALUE: u64 = 8;
 
-pub(crate) const FAILED_REFUSED: u64 = 7;
+pub(crate) const FAILED_REFUSED: u64 = 9;
 
-pub(crate) const FAILED_LINES: u64 = 8;
+pub(crate) const FAILED_LINES: u64 = 10;
 
 // A clash: the first line for each core, whose lines are for Status, Enable and a mailbox, for the bridge (masks, message enables, a route), the gate's,
 // and the first for the node (enables, a route).
-pub(crate) const CLASH_CORE0: u64 = 9;
+pub(crate) const CLASH_CORE0: u64 = 11;
 
-pub(crate) const CLASH_CORE1: u64 = 12;
+pub(crate) const CLASH_CORE1: u64 = 14;
 
-pub(crate) const CLASH_BRIDGE: u64 = 15;
+pub(crate) const CLASH_BRIDGE: u64 = 17;
 
-pub(crate) const CLASH_GATE: u64 = 18;
+pub(crate) const CLASH_GATE: u64 = 20;
 
-pub(crate) const CLASH_NODE: u64 = 19;
+pub(crate) const CLASH_NODE: u64 = 21;
 
-pub(crate) const FREE: u64 = 21;
+pub(crate) const FREE: u64 = 23;
 
-pub(crate) const CLASHES: u64 = 22;
+pub(crate) const CLASHES: u64 = 24;
 
 // The last line: with no expectation, and with some.
-pub(crate) const COUNTS: u64 = 23;
+pub(crate) const COUNTS: u64 = 25;
 
-pub(crate) const JUDGED: u64 = 24;
+pub(crate) const JUDGED: u64 = 26;
 
 // Before the output of a file of several.
-pub(crate) const HEADER: u64 = 25;
+pub(crate) const HEADER: u64 = 27;
 
-// The rest are of the table of put_error. A file that cannot be read, the last for any other reason.
+// The rest are of the table of put_error. A file that cannot be read or written, UNREAD and UNWRITTEN for any other reason.
 pub(crate) const NO_FILE: u64 = 1;
 
 pub(crate) const DENIED: u64 = 2;
@@ -68,40 +73,45 @@ pub(crate) const FAULT: u64 = 7;
 
 pub(crate) const UNREAD: u64 = 8;
 
-// A line that cannot be read.
-pub(crate) const TOO_LONG: u64 = 9;
+pub(crate) const UNWRITTEN: u64 = 9;
 
-pub(crate) const UNPRINTABLE: u64 = 10;
+// A capture of more bytes than are read.
+pub(crate) const LONG_CAPTURE: u64 = 10;
+
+// A line that cannot be read.
+pub(crate) const TOO_LONG: u64 = 11;
+
+pub(crate) const UNPRINTABLE: u64 = 12;
 
 // A word that is wrong.
-pub(crate) const MISSING: u64 = 11;
+pub(crate) const MISSING: u64 = 13;
 
-pub(crate) const UNEXPECTED: u64 = 12;
+pub(crate) const UNEXPECTED: u64 = 14;
 
-pub(crate) const MALFORMED: u64 = 13;
+pub(crate) const MALFORMED: u64 = 15;
 
-pub(crate) const TOO_LARGE: u64 = 14;
+pub(crate) const TOO_LARGE: u64 = 16;
 
-pub(crate) const NO_BIT: u64 = 15;
+pub(crate) const NO_BIT: u64 = 17;
 
-pub(crate) const LINES: u64 = 16;
+pub(crate) const LINES: u64 = 18;
 
 // A line that cannot stand where it does.
-pub(crate) const EARLY: u64 = 17;
+pub(crate) const EARLY: u64 = 19;
 
-pub(crate) const AFTER_ERROR: u64 = 18;
+pub(crate) const AFTER_ERROR: u64 = 20;
 
-pub(crate) const INSIDE: u64 = 19;
+pub(crate) const INSIDE: u64 = 21;
 
-pub(crate) const UNLISTED: u64 = 20;
+pub(crate) const UNLISTED: u64 = 22;
 
-pub(crate) const FULL: u64 = 21;
+pub(crate) const FULL: u64 = 23;
 
-pub(crate) const NESTED: u64 = 22;
+pub(crate) const NESTED: u64 = 24;
 
-pub(crate) const NO_BEGIN: u64 = 23;
+pub(crate) const NO_BEGIN: u64 = 25;
 
-pub(crate) const NO_END: u64 = 24;
+pub(crate) const NO_END: u64 = 26;
 
 // One line for 0, and another for any other number.
 pub(crate) fn line_for(n: u64, zero: u64, other: u64) -> u64 {
@@ -191,6 +201,8 @@ pub(crate) fn put_line(out: &mut [u8], at: usize, n: u64, values: [u64; 5], text
         b"
 # ok 0x$ &
 # refused # &
+# replayed # &
+# refused # & at #
 # met
 # FAILED expected 0x$ got 0x$
 # FAILED expected 0x$ got refused #
@@ -221,8 +233,8 @@ pub(crate) fn put_line(out: &mut [u8], at: usize, n: u64, values: [u64; 5], text
     )
 }
 
-// Puts the line of a file or a line in error: '@' is the form that was expected.
-pub(crate) fn put_error(out: &mut [u8], at: usize, n: u64, values: [u64; 5], text: &[u8]) -> usize {
+// Puts the line of a file in error, or what stands behind the number of a line in error: '@' is the form that was expected.
+pub(crate) fn put_error(out: &mut [u8], at: usize, n: u64, form: u64, text: &[u8]) -> usize {
     put_entry(
         out,
         at,
@@ -235,25 +247,40 @@ error *: the name is too long
 error *: too many symbolic links
 error *: input or output error
 error *: cannot be read
-# error the line has more than 1024 bytes
-# error the line has a byte that is neither printable ASCII nor a tab
-# error a word is missing, expected: @
-# error \"*\" was not expected, expected: @
-# error \"*\" is not a number, expected: @
-# error \"*\" is above 2^64 - 1, expected: @
-# error \"*\" is neither 0 nor 1, expected: @
-# error \"*\" is not four or twelve flags, expected: @
-# error expectation before the first step
-# error expectation after a line in error, expected: a step first
-# error expectation in a reorder block, expected: a write of the order rule
-# error no write of the order rule, left out of the reorder block
-# error more than 256 writes in the reorder block, left out
-# error reorder begin in a reorder block
-# error reorder end without reorder begin
-# error reorder begin without reorder end
+error *: cannot be written
+error *: longer than 4 MiB
+error the line has more than 1024 bytes
+error the line has a byte that is neither printable ASCII nor a tab
+error a word is missing, expected: @
+error \"*\" was not expected, expected: @
+error \"*\" is not a number, expected: @
+error \"*\" is above 2^64 - 1, expected: @
+error \"*\" is neither 0 nor 1, expected: @
+error \"*\" is not four or twelve flags, expected: @
+error expectation before the first step
+error expectation after a line in error, expected: a step first
+error expectation in a reorder block, expected: a write of the order rule
+error no write of the order rule, left out of the reorder block
+error more than 256 writes in the reorder block, left out
+error reorder begin in a reorder block
+error reorder end without reorder begin
+error reorder begin without reorder end
 ",
         n,
-        values,
+        [form, 0, 0, 0, 0],
         text,
     )
+}
+
+// Puts that of a line in error, which may be a file's that the line names.
+pub(crate) fn put_line_error(
+    out: &mut [u8],
+    at: usize,
+    line: u64,
+    n: u64,
+    form: u64,
+    text: &[u8],
+) -> usize {
+    let next = put_filled(out, at, b"# ", [line, 0, 0, 0, 0], text);
+    put_error(out, next, n, form, text)
 }

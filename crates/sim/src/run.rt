@@ -8,6 +8,7 @@ use crate::forms::EXPECT_REFUSED;
 use crate::forms::EXPECT_VALUE;
 use crate::forms::REORDER_BEGIN;
 use crate::forms::REORDER_END;
+use crate::forms::REPLAY;
 use crate::lines::all;
 use crate::lines::as_many;
 use crate::parse::parse;
@@ -32,10 +33,14 @@ use crate::print::NO_END;
 use crate::print::NONE;
 use crate::print::OK;
 use crate::print::REFUSED;
+use crate::print::REFUSED_AT;
+use crate::print::REPLAYED;
 use crate::print::UNLISTED;
 use crate::print::line_for;
-use crate::print::put_error;
 use crate::print::put_line;
+use crate::print::put_line_error;
+use crate::replay::replay_file;
+use answers::Outcome;
 use device::Device;
 use script::BUS_READ;
 use script::RESET;
@@ -143,27 +148,32 @@ impl Run {
     }
 
     fn in_error(mut self, error: u64, form: u64, word: &[u8], out: &mut [u8]) -> Run {
-        self.at = put_error(out, self.at, error, [self.line, form, 0, 0, 0], word);
+        self.at = put_line_error(out, self.at, self.line, error, form, word);
         self.errors = more(self.errors);
         self.after_error = true;
         self
     }
 
+    // Counts a step, and keeps what it answered and left.
+    fn stepped(mut self, value: u64, refusal: u64, lines: u64, device: Device) -> Run {
+        self.device = device;
+        self.value = value;
+        self.refusal = refusal;
+        self.lines = all(lines);
+        self.steps = more(self.steps);
+        self.refused = counted(self.refused, refusal);
+        self.after_error = false;
+        self
+    }
+
     // Takes a step.
-    fn step(mut self, values: [u64; 7]) -> Run {
+    fn step(self, values: [u64; 7]) -> Run {
         let device = self.device;
         let stepped = device.step(step_of(values));
         let answer = stepped.answer;
         let next = stepped.device;
         let outcome = answer.outcome;
-        self.device = next;
-        self.value = outcome.data();
-        self.refusal = outcome.number();
-        self.lines = all(answer.lines());
-        self.steps = more(self.steps);
-        self.refused = counted(self.refused, self.refusal);
-        self.after_error = false;
-        self
+        self.stepped(outcome.data(), outcome.number(), answer.lines(), next)
     }
 
     // Puts what the last step answered.
@@ -190,6 +200,32 @@ impl Run {
         }
         self.writes = keep(block, self.writes, values);
         self
+    }
+
+    // Puts what a replay answered: the bytes of the dump, or the refusal's number, and the place in the capture that shows it.
+    fn put_replayed(mut self, n: u64, place: u64, out: &mut [u8]) -> Run {
+        self.at = put_line(
+            out,
+            self.at,
+            line_for(self.refusal, REPLAYED, REFUSED_AT),
+            [self.line, n, self.lines, place, 0],
+            b"",
+        );
+        self
+    }
+
+    // Replays a capture, which is a step of the value 0 unless a file is at fault.
+    fn replay(self, s: &[u8], out: &mut [u8]) -> Run {
+        let device = self.device;
+        let replay = replay_file(device, word_at(s, 1), word_at(s, 2));
+        if replay.error != NONE {
+            return self.in_error(replay.error, REPLAY, word_at(s, replay.word), out);
+        }
+        let next = replay.device;
+        let shown = next.answered(Outcome::Value(0));
+        let answer = shown.answer;
+        self.stepped(0, replay.refusal, answer.lines(), next)
+            .put_replayed(replay.length | replay.refusal, replay.place, out)
     }
 
     // Counts an expectation, which is met where nothing is missed.
@@ -256,6 +292,7 @@ impl Run {
     fn place_error(self, values: [u64; 7]) -> u64 {
         match values[0] {
             BUS_READ..=RESET => self.step_error(values),
+            REPLAY => line_for(self.begin, NONE, UNLISTED),
             EXPECT_VALUE..=EXPECT_LINES => expect_error(self.begin, self.steps, self.after_error),
             REORDER_BEGIN => line_for(self.begin, NONE, NESTED),
             REORDER_END => line_for(self.begin, NO_BEGIN, NONE),
@@ -272,9 +309,16 @@ impl Run {
     }
 
     // Runs a line that is right.
-    fn run_values(self, values: [u64; 7], block: &mut [[u64; 7]; 256], out: &mut [u8]) -> Run {
+    fn run_values(
+        self,
+        s: &[u8],
+        values: [u64; 7],
+        block: &mut [[u64; 7]; 256],
+        out: &mut [u8],
+    ) -> Run {
         match values[0] {
             BUS_READ..=RESET => self.step_or_keep(values, block, out),
+            REPLAY => self.replay(s, out),
             EXPECT_VALUE..=EXPECT_LINES => self.expect(values[0], wanted(values), out),
             REORDER_BEGIN => self.begin_block(),
             REORDER_END => self.end_block(block, out),
@@ -292,7 +336,7 @@ impl Run {
         if error != NONE {
             return self.in_error(error, values[0], word_at(s, line.place), out);
         }
-        self.run_values(values, block, out)
+        self.run_values(s, values, block, out)
     }
 
     // The end of the script: a block that is open is an error of the line that began it.

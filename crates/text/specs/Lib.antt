@@ -1,3 +1,4 @@
+pub mod Ascii
 pub mod Tokens
 pub mod Buffers
 pub mod Examples

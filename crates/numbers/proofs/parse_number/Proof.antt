@@ -12,7 +12,7 @@ parse-number-spec =
     (tie.spec
     (λ c κs. search needs)  -- marked-requires
     (λ c κs. search needs)  -- parse-digits-requires
-    (λ c κs. search needs)  -- parse-digits-requires-2
+    (λ c κs. search needs)  -- parse-decimal-requires
     (λ c. rw (sym (c .before .before .marked .ensures) ∙ c .before .if1 .taken) (c .parse-digits .ensures))  -- returns
-    (λ c. rw (sym (c .before .before .marked .ensures) ∙ c .before .if1 .left) (c .parse-digits2 .ensures))  -- returns-2
+    (λ c. rw (sym (c .before .before .marked .ensures) ∙ c .before .if1 .left) (c .parse-decimal .ensures))  -- returns-2
     )

@@ -1,0 +1,4 @@
+pub mod Dump
+pub mod Pieces
+pub mod Private
+pub mod Examples

@@ -1,0 +1,94 @@
+-- The promises of specs/Promises.
+use Prim.Native.Nat.{ℕ, _≤_}
+use mathlib.Core.Path.{_≡_, refl, sym, ap, ap₂, _∙_}
+use mathlib.Core.Bool.{Bool, false, cond}
+use mathlib.Core.List.{List, [], _∷_}
+use native.Mathlib.Omega.{arith}
+use lib.ListN.{length}
+use Rattle.device.specs.declared.Device.{Device}
+use Rattle.device.specs.declared.Stepped.{Stepped}
+use Rattle.capture_tokens.specs.Tokens.{Token, words, placed}
+use Rattle.capture_ids.specs.Ids.{Variable, headerOf, lookOf}
+use Rattle.capture_ids.proofs.Bools.{never}
+use Rattle.capture_commands.specs.declared.Event.{Event}
+use Rattle.capture_commands.specs.declared.Event.the-variants.{Nothing, Mark, Change}
+use Rattle.capture_commands.specs.declared.Outcome.{Outcome}
+use Rattle.capture_commands.specs.declared.Outcome.the-variants.{Accepted, BadText, EarlierTime, NoRoom}
+use Rattle.capture_commands.specs.Commands.{outcomeNumber, judged, stateStart, stateFrom, eventsFrom, accepted}
+use Rattle.capture_times.specs.declared.Times.{Times}
+use Rattle.capture_run.specs.Run.{beginOf, linesOf, actedOf, lastOf, dumpFrom}
+use Rattle.capture_times.specs.Times.{timesStart}
+use Rattle.capture.specs.Replay.{says, eventsOf, textOutcome, dumpOf, deviceOf, outcomeOf, answerOf, replayOf, bufferOf}
+use Rattle.capture_promises.specs.Promises.{RefusedReplay, changes, QuietReplay, Wiring, nowhere, inputs0to3, shownFrom, wiredOf, DumpAccepted, DumpLines, DumpWired}
+use Rattle.capture_promises.proofs.Lines.{Wires}
+use Rattle.capture_promises.proofs.Marks.{events-fit}
+use Rattle.capture_promises.proofs.Dumps.{ReadBack, read-back}
+use Rattle.capture_promises.proofs.Openings.{Heads, variables, dump-heads, wired-heads, dump-wires, wired-wires}
+
+-- ---- refused replays
+
+numbers : (o : Outcome) → accepted o ≡ false → (10 ≤ outcomeNumber o) × (outcomeNumber o ≤ 12)
+unfolding accepted outcomeNumber
+numbers Accepted e = absurd (never (sym e))
+numbers BadText e = (omega arith, omega arith)
+numbers EarlierTime e = (omega arith, omega arith)
+numbers NoRoom e = (omega arith, omega arith)
+
+pub refused-replay : RefusedReplay
+unfolding replayOf bufferOf answerOf
+refused-replay d s out used e =
+    let n = numbers (outcomeOf s out used d) e in
+    record { from-10 = n .0; to-12 = n .1; device = rw e; length = rw e; buffer = rw e }
+
+-- ---- captures without changes
+
+quiet : (es : List Event) (now : Stepped) → changes es ≡ false → lastOf es now ≡ now
+unfolding changes lastOf actedOf
+quiet [] now e = refl
+quiet (Nothing ∷ es) now e = quiet es now e
+quiet (Mark n ∷ es) now e = quiet es now e
+quiet (Change inputs level ∷ es) now e = absurd (never (sym e))
+
+pub quiet-replay : QuietReplay
+unfolding deviceOf
+quiet-replay d s e = ap (λ (k : Stepped). k .device) (quiet (eventsOf s) (beginOf d) e)
+
+-- ---- the dump, read back
+
+module _ (s : List ℕ) (vs : List Variable) (w : Wiring) (l : Wires (lookOf vs) w) (from : List ℕ) (d : Device) (n : ℕ) where
+  abbrev times : Times
+  times = timesStart (linesOf (beginOf d))
+
+  abbrev body : List ℕ
+  body = dumpFrom (eventsOf from) times (beginOf d)
+
+  module _ (h : Heads s vs (placed n (words body))) where
+    back : ReadBack w l false 0 0 n body (shownFrom w (eventsOf from) times (beginOf d))
+    back = read-back w l (eventsOf from) (events-fit (says from) stateStart (headerOf from .rest)) times (beginOf d) 0 n (record { below = λ e. absurd (never e); fits = λ e. absurd (never e) })
+
+    pub text-accepted : textOutcome s ≡ Accepted
+    unfolding textOutcome judged
+    text-accepted =
+        ap (λ (t : Bool). cond t (judged (stateFrom (says s) stateStart (headerOf s .rest) .mode)) BadText) (h .whole)
+        ∙ ap₂ (λ (v : List Variable) (ts : List Token). judged (stateFrom (lookOf v) stateStart ts .mode)) (h .variables) (h .rest)
+        ∙ ap judged (back .mode)
+
+    pub text-events : eventsOf s ≡ shownFrom w (eventsOf from) times (beginOf d)
+    text-events = ap₂ (λ (v : List Variable) (ts : List Token). eventsFrom (lookOf v) stateStart ts) (h .variables) (h .rest) ∙ back .events
+
+pub dump-accepted : DumpAccepted
+unfolding dumpOf
+dump-accepted d s = text-accepted (dumpOf s d) (variables 64 64 64 64) nowhere dump-wires s d 115 (dump-heads (eventsOf s) (timesStart (linesOf (beginOf d))) (beginOf d))
+
+pub dump-lines : DumpLines
+unfolding dumpOf
+dump-lines d s = text-events (dumpOf s d) (variables 64 64 64 64) nowhere dump-wires s d 115 (dump-heads (eventsOf s) (timesStart (linesOf (beginOf d))) (beginOf d))
+
+pub dump-wired : DumpWired
+unfolding wiredOf
+dump-wired d s =
+    let h = wired-heads (eventsOf s) (timesStart (linesOf (beginOf d))) (beginOf d) in
+    record {
+      accepted = text-accepted (wiredOf s d) (variables 0 1 2 3) inputs0to3 wired-wires s d 113 h;
+      lines = text-events (wiredOf s d) (variables 0 1 2 3) inputs0to3 wired-wires s d 113 h;
+    }
