@@ -3,5 +3,7 @@ pub mod Lines
 pub mod Marks
 pub mod Dumps
 pub mod Openings
+pub mod Again
+pub mod Wired
 pub mod Promises
 pub mod Examples

@@ -2,7 +2,7 @@
 use Prim.Native.Nat.{ℕ, _≤_}
 use mathlib.Core.Path.{_≡_, refl, sym, ap, ap₂, _∙_}
 use mathlib.Core.Bool.{Bool, false, cond}
-use mathlib.Core.List.{List, [], _∷_}
+use mathlib.Core.List.{List, [], _∷_, _++_}
 use native.Mathlib.Omega.{arith}
 use lib.ListN.{length}
 use Rattle.device.specs.declared.Device.{Device}
@@ -16,13 +16,15 @@ use Rattle.capture_commands.specs.declared.Outcome.{Outcome}
 use Rattle.capture_commands.specs.declared.Outcome.the-variants.{Accepted, BadText, EarlierTime, NoRoom}
 use Rattle.capture_commands.specs.Commands.{outcomeNumber, judged, stateStart, stateFrom, eventsFrom, accepted}
 use Rattle.capture_times.specs.declared.Times.{Times}
+use Rattle.capture_dump.specs.Dump.{opening, endText}
 use Rattle.capture_run.specs.Run.{beginOf, linesOf, actedOf, lastOf, dumpFrom}
 use Rattle.capture_times.specs.Times.{timesStart}
 use Rattle.capture.specs.Replay.{says, eventsOf, textOutcome, dumpOf, deviceOf, outcomeOf, answerOf, replayOf, bufferOf}
-use Rattle.capture_promises.specs.Promises.{RefusedReplay, changes, QuietReplay, Wiring, nowhere, inputs0to3, shownFrom, wiredOf, DumpAccepted, DumpLines, DumpWired}
+use Rattle.capture_promises.specs.Promises.{RefusedReplay, changes, QuietReplay, Wiring, nowhere, inputs0to3, shownFrom, wiredOf, DumpAccepted, DumpLines, DumpWired, DumpAgain}
 use Rattle.capture_promises.proofs.Lines.{Wires}
 use Rattle.capture_promises.proofs.Marks.{events-fit}
 use Rattle.capture_promises.proofs.Dumps.{ReadBack, read-back}
+use Rattle.capture_promises.proofs.Again.{begin-ipi, again}
 use Rattle.capture_promises.proofs.Openings.{Heads, variables, dump-heads, wired-heads, dump-wires, wired-wires}
 
 -- ---- refused replays
@@ -92,3 +94,13 @@ dump-wired d s =
       accepted = text-accepted (wiredOf s d) (variables 0 1 2 3) inputs0to3 wired-wires s d 113 h;
       lines = text-events (wiredOf s d) (variables 0 1 2 3) inputs0to3 wired-wires s d 113 h;
     }
+
+-- ---- the dump, dumped again
+
+pub dump-again : DumpAgain
+unfolding dumpOf lastOf endText
+dump-again d e s f =
+    ap (λ (es : List Event). opening ++ dumpFrom es (timesStart (linesOf (beginOf e))) (beginOf e)) (dump-wired d s .lines)
+    ∙ ap (λ (l : List ℕ). opening ++ l)
+    (again e f (eventsOf s) (timesStart (linesOf (beginOf d))) (beginOf d) (timesStart (linesOf (beginOf e))) [] (begin-ipi d)
+    (record { unmarked = λ q. refl; fresh = λ q. refl; later = λ q. absurd (never (sym q)) }))

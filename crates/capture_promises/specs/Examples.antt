@@ -1,5 +1,6 @@
 -- Small captures and what becomes of them, as one table: the text; the refusal's number (0: accepted) and its place; the dump.
 --   device   every source reaches output 0     examples, AsPrinted   the table and the claim     rooms, AsWritten   the same of buffers
+--   wiredDevice, DeviceFollows   a device whose lines follow inputs 2 and 3
 use Prim.Native.Nat.{ℕ}
 use Prim.Native.Char.{code}
 use mathlib.Core.Path.{_≡_}
@@ -10,6 +11,7 @@ use Rattle.text.specs.Ascii.{ascii}
 use Rattle.device.specs.declared.Device.{Device}
 use Rattle.capture_commands.specs.Commands.{outcomeNumber, accepted}
 use Rattle.capture_dump.specs.Dump.{opening}
+use Rattle.capture_promises.specs.Promises.{Follows}
 use Rattle.capture.specs.Replay.{textOutcome, textPlace, dumpOf, replayOf, bufferOf}
 
 -- No source is masked, each goes to output 0 in level mode but source 3, which is in edge mode, and the gate is open.
@@ -111,3 +113,22 @@ rooms =
 
 abbrev pub AsWritten : Type 0
 AsWritten = map filled rooms ≡ rooms
+
+-- ---- a device that is wired so
+
+-- Sources 2 and 3 alone are unmasked; 2 goes to output 0 and 3 to output 1.
+unfoldable pub wiredDevice : Device
+wiredDevice = record {
+  core0 = record { status = 0; enable = 0; mail = replicate 4 0 };
+  core1 = record { status = 0; enable = 0; mail = replicate 4 0 };
+  tree = record {
+    bridge = record { mask = 0xfffffffffffffff3; msi = 0; edge = 0; latch = 0; soft = 0; level = 0; auto = 0; turn = 0; routes = 0 ∷ 0 ∷ 1 ∷ 2 ∷ replicate 60 0 };
+    gate = true;
+    node = record { enable = 0; edge = 0; latch = 0; level = 0; routes = replicate 32 0 };
+  };
+  «second_open» = false;
+}
+
+-- Its lines br0 and br1 follow inputs 2 and 3, whatever a capture calls for: there are devices of which DumpAgain speaks.
+abbrev pub DeviceFollows : Type 0
+DeviceFollows = Follows wiredDevice false false

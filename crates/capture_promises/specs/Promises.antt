@@ -3,10 +3,12 @@
 --   QuietReplay     a capture without changes moves what taking the 64 inputs to 0 moves, and nothing else
 --   DumpAccepted    a dump is itself a capture that is accepted
 --   DumpLines       read back, it calls for the lines' own marks and values; DumpWired, where its wires are inputs
+--   DumpAgain       there, on a device whose lines follow those inputs, it is dumped again as it is
 use Prim.Native.Nat.{ℕ, _≤_}
 use mathlib.Core.Path.{_≡_}
 use mathlib.Core.Bool.{Bool, true, false, cond}
 use mathlib.Core.List.{List, [], _∷_, _++_}
+use Rattle.bits.specs.Bits.{bit}
 use Rattle.text.specs.Ascii.{ascii}
 use Rattle.device.specs.declared.Device.{Device}
 use Rattle.device.specs.declared.Stepped.{Stepped}
@@ -18,7 +20,7 @@ use Rattle.capture_dump.specs.declared.Lines.{Lines}
 use Rattle.capture_dump.specs.declared.Time.{Time}
 use Rattle.capture_dump.specs.Dump.{differs, someDiffers}
 use Rattle.capture_times.specs.declared.Times.{Times}
-use Rattle.capture_run.specs.Run.{beginOf, actedOf, linesOf, dumpFrom}
+use Rattle.capture_run.specs.Run.{beginOf, actedOf, linesOf, lastOf, dumpFrom}
 use Rattle.capture_times.specs.Times.{endsOf, timesOf, timesStart}
 use Rattle.capture.specs.Replay.{eventsOf, textOutcome, dumpOf, deviceOf, replayOf, bufferOf}
 
@@ -110,3 +112,24 @@ pub record Wired (d : Device) (s : List ℕ) : Type 0 where
 
 abbrev pub DumpWired : Type 0
 DumpWired = (d : Device) (s : List ℕ) → Wired d s
+
+-- ---- the dump, dumped again
+
+-- The level of an input after some events: what the last change of it gave, and before that l.
+unfoldable pub levelOf : ℕ → Bool → List Event → Bool
+levelOf i l [] = l
+levelOf i l (Nothing ∷ es) = levelOf i l es
+levelOf i l (Mark n ∷ es) = levelOf i l es
+levelOf i l (Change inputs level ∷ es) = levelOf i (cond (bit inputs i) level l) es
+
+abbrev pub lines : Bool → Bool → Bool → Bool → Lines
+lines ipi0 ipi1 br0 br1 = record { ipi0 = ipi0; ipi1 = ipi1; br0 = br0; br1 = br1 }
+
+-- A device that is wired so: whatever a capture calls for, line br0 follows input 2 and br1 input 3; the IPI lines, which no input moves, stand at a and b.
+abbrev pub Follows : Device → Bool → Bool → Type 0
+Follows d a b = (es : List Event) → linesOf (lastOf es (beginOf d)) ≡ lines a b (levelOf 2 false es) (levelOf 3 false es)
+
+-- There the replay of a wired dump is the dump's own lines.
+abbrev pub DumpAgain : Type 0
+DumpAgain =
+    (d e : Device) (s : List ℕ) → Follows e (linesOf (beginOf d) .ipi0) (linesOf (beginOf d) .ipi1) → dumpOf (wiredOf s d) e ≡ dumpOf s d
