@@ -3,7 +3,7 @@ ghost use mathlib.Core.Path.{_≡_};
 ghost use Rattle.access.specs.Refusal.{firstOf, refusalNumber};
 ghost use Rattle.access.specs.Access.{accessRefusals, fitting, listed, permitted};
 
-// Why a step is refused, in the order of the numbers.
+// Why a step is refused, in the order of the numbers: 1 to 9.
 pub enum Refusal {
     Core,
     Register,
@@ -56,6 +56,13 @@ pub fn refusal_number(refusal: Refusal) -> u64
         Refusal::NoneInService => 9,
     }
 }
+
+// The numbers of a replay's refusals.
+pub const BAD_TEXT: u64 = 10;
+
+pub const EARLIER_TIME: u64 = 11;
+
+pub const NO_ROOM: u64 = 12;
 
 pub fn permits(rights: Rights, write: bool) -> bool
     ensures { λ r. ⌜ r ≡ permitted rights write ⌝ }

@@ -1,6 +1,6 @@
 -- For the contracts of private functions alone; no other definition uses these.
---   issuerIn   the core that a window belongs to, 0 for the bus     sentPast   a send in a private window to a core above 1
---   admittedAt   the refusal of an access that names a place, or the place
+--   issuerIn   the core that a window belongs to, 0 for the bus     sentPast   a target above 1 in a private window
+--   admittedAt   the refusal of an access that names a place, or the place and the target
 use Prim.Native.Nat.{ℕ}
 use mathlib.Core.Bool.{Bool, false, cond, not, _&&_}
 use lib.Dec.{ltb}
@@ -23,15 +23,16 @@ issuerIn First = 0
 issuerIn Second = 0
 issuerIn (Private core) = core
 
-abbrev pub sentPast : Window → Place → ℕ → Bool
-sentPast First place value = false
-sentPast Second place value = false
-sentPast (Private core) place value = ltb 1 (targetAt place value)
+abbrev pub sentPast : Window → ℕ → Bool
+sentPast First target = false
+sentPast Second target = false
+sentPast (Private core) target = ltb 1 target
 
-abbrev pub judgedAt : Verdict → Bool → Place → Admission
-judgedAt (verdict.Refused reason) past place = Refused reason
-judgedAt verdict.Accepted past place = cond past (Refused Core) (At place)
+abbrev pub judgedAt : Verdict → Bool → Place → ℕ → Admission
+judgedAt (verdict.Refused reason) past place target = Refused reason
+judgedAt verdict.Accepted past place target = cond past (Refused Core) (At place target)
 
 unfoldable pub admittedAt : Window → Place → Access → Bool → ℕ → Bool → ℕ → Admission
 admittedAt w place access opened width write value =
-    cond (inSecond w && not opened) (Refused Closed) (judgedAt (firstOf (accessRefusals access width write value)) (sentPast w place value) place)
+    let target = targetAt place value in
+    cond (inSecond w && not opened) (Refused Closed) (judgedAt (firstOf (accessRefusals access width write value)) (sentPast w target) place target)

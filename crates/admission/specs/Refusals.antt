@@ -1,6 +1,7 @@
 -- Which steps are refused (01, "Refusal numbers": "The first that applies is given"), for each kind of step a list in 01's order.
 --   busRefusals, privateRefusals, bridgeRefusals, inputRefusals, nodeInputRefusals   the lists
---   refusalsIn, admissionOf   of an access in any window: the list, and the refusal or the place that is reached
+--   refusalsIn, admissionOf   of an access in any window: the list, and the refusal or what is reached
+--   accessOf, targetAt, targetIn   what an address names: its rights and widths, the core that a write there reaches
 use Prim.Native.Nat.{ℕ}
 use mathlib.Core.Bool.{Bool, true, false, not, _&&_}
 use mathlib.Core.List.{List, [], _∷_, _++_}
@@ -13,9 +14,9 @@ use Rattle.access.specs.declared.Verdict.{Verdict}
 use Rattle.access.specs.declared.Verdict.the-variants as verdict
 use Rattle.access.specs.Refusal.{Check, _when_, firstOf}
 use Rattle.access.specs.Access.{accessRefusals, permitted}
-use Rattle.ipi.specs.Effect.{targetOf}
-use Rattle.bridge.specs.declared.Register as bridge
-use Rattle.bridge.specs.Registers.{distributed, rowOf, sized}
+use Rattle.ipi_registers.specs.Effect.{targetOf}
+use Rattle.bridge_registers.specs.declared.Register as bridge
+use Rattle.bridge_registers.specs.Registers.{distributed, rowOf, sized}
 use Rattle.windows.specs.declared.Window as windows
 use Rattle.windows.specs.declared.Window.the-variants.{First, Second, Private}
 use Rattle.windows.specs.declared.Address.{Address}
@@ -33,7 +34,7 @@ abbrev pub accessOf : Located → Access
 accessOf Nowhere = record { rights = Both; widths = Four }
 accessOf (At place access) = access
 
--- the core that a write to a place reaches; none but a message register has one
+-- the core that a write to a place reaches: of a send, its target; none but a message register has one
 unfoldable pub targetAt : Place → ℕ → ℕ
 targetAt (place.Message register core) value = targetOf register core value
 targetAt (place.Node register) value = 0
@@ -83,14 +84,14 @@ inputRefusals source = Source when ltb 63 source ∷ []
 unfoldable pub nodeInputRefusals : ℕ → List Check
 nodeInputRefusals source = Source when not (leb 2 source && ltb source 32) ∷ []
 
--- ---- the place that an access reaches
+-- ---- what an access reaches: a place, and the core that a write there reaches
 
-abbrev pub admitted : Verdict → Located → Admission
-admitted (verdict.Refused reason) l = admission.Refused reason
-admitted verdict.Accepted (At place access) = admission.At place
-admitted verdict.Accepted Nowhere = admission.Refused Register  -- 2 is given there, so that this does not arise
+abbrev pub admitted : Verdict → Located → ℕ → Admission
+admitted (verdict.Refused reason) l value = admission.Refused reason
+admitted verdict.Accepted (At place access) value = admission.At place (targetAt place value)
+admitted verdict.Accepted Nowhere value = admission.Refused Register  -- 2 is given there, so that this does not arise
 
 unfoldable pub admissionOf : Address → Bool → ℕ → Bool → ℕ → Admission
 admissionOf a opened width write value =
     let l = locatedAt a in
-    admitted (firstOf (refusalsIn (a .window) l opened width write value)) l
+    admitted (firstOf (refusalsIn (a .window) l opened width write value)) l value

@@ -1,4 +1,4 @@
-// Which steps are refused: of each kind the first refusal that applies, or the place that is reached.
+// Which steps are refused: of each kind the first refusal that applies, or what is reached.
 ghost use mathlib.Core.Path.{_≡_};
 ghost use mathlib.Core.Bool.{not, _&&_};
 ghost use Rattle.access.specs.Refusal.{firstOf};
@@ -13,10 +13,10 @@ use windows::Located;
 use windows::Place;
 use windows::Window;
 
-// Why a bus or private access is refused, or the place that it reaches.
+// Why a bus or private access is refused, or the place that it names, and the core that a write there reaches.
 pub enum Admission {
     Refused(Refusal),
-    At(Place),
+    At { place: Place, target: u64 },
 }
 
 // The core that issues an access in a window, as far as it can be refused: 0 for the bus.
@@ -40,12 +40,12 @@ fn closed(window: Window, opened: bool) -> bool
     }
 }
 
-// The core that a write reaches.
+// The core that a write reaches: of a send, its target.
 fn target(place: Place, value: u64) -> u64
     ensures { λ r. ⌜ r ≡ targetAt place value ⌝ }
 {
     match place {
-        Place::Message { register, core } => ipi::target(register, core, value),
+        Place::Message { register, core } => ipi_registers::target(register, core, value),
         Place::Node(_) => 0,
         Place::Gate => 0,
         Place::GateHigh => 0,
@@ -53,17 +53,17 @@ fn target(place: Place, value: u64) -> u64
 }
 
 // A send in a private window to a core above 1; no window of the bus has a send.
-fn sent_past(window: Window, place: Place, value: u64) -> bool
-    ensures { λ r. ⌜ r ≡ sentPast window place value ⌝ }
+fn sent_past(window: Window, target: u64) -> bool
+    ensures { λ r. ⌜ r ≡ sentPast window target ⌝ }
 {
     match window {
         Window::First => false,
         Window::Second => false,
-        Window::Private(_) => 1 < target(place, value),
+        Window::Private(_) => 1 < target,
     }
 }
 
-// An access that names a place: of the refusals 3, 4, 5, 6 and 1 the first that applies, or the place.
+// An access that names a place: of the refusals 3, 4, 5, 6 and 1 the first that applies, or the place and the target.
 fn admitted(
     window: Window,
     place: Place,
@@ -81,10 +81,14 @@ fn admitted(
     match access::judge(access, width, write, value) {
         Verdict::Refused(refusal) => Admission::Refused(refusal),
         Verdict::Accepted => {
-            if sent_past(window, place, value) {
+            let target = target(place, value);
+            if sent_past(window, target) {
                 return Admission::Refused(Refusal::Core);
             }
-            Admission::At(place)
+            Admission::At {
+                place: place,
+                target: target,
+            }
         }
     }
 }
@@ -107,18 +111,18 @@ pub fn admit(address: Address, opened: bool, width: u64, write: bool, value: u64
 }
 
 // Bridge: the first refusal that applies, of 7, 5, 6 and 8.
-pub fn bridge_verdict(register: bridge::Register, write: bool, value: u64) -> Verdict
+pub fn bridge_verdict(register: bridge_registers::Register, write: bool, value: u64) -> Verdict
     ensures { λ r. ⌜ r ≡ firstOf (bridgeRefusals register write value) ⌝ }
 {
-    let row = bridge::row_of(register);
+    let row = bridge_registers::row_of(register);
     let rights = row.rights;
     let holds = row.holds;
     if 63 < row.source {
         return Verdict::Refused(Refusal::Source);
     }
     if access::permits(rights, write) {
-        if bridge::fits(holds, value) {
-            if bridge::held(holds, value) {
+        if bridge_registers::fits(holds, value) {
+            if bridge_registers::held(holds, value) {
                 return Verdict::Accepted;
             }
             return Verdict::Refused(Refusal::Distribution);

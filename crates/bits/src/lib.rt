@@ -1,14 +1,29 @@
-// Words: masked writes, single bits, a choice of two, the edge-latch rule.
+// Words: masked writes, single bits, a choice of two words and of their bits, the edge-latch rule.
 ghost use mathlib.Core.Path.{_≡_};
 ghost use mathlib.Core.Bool.{cond, _&&_};
 ghost use Rattle.bits.specs.Bits as specs;
 ghost use Rattle.bits.specs.Latch as latches;
 
-// The bits of `value` where `mask` is set, and of `old` elsewhere.
+// Bit by bit one of two words: of `a` where `mask` is set, and of `b` elsewhere.
+pub fn select(mask: u64, a: u64, b: u64) -> u64
+    ensures { λ r. ⌜ r ≡ specs.select 64 mask a b ⌝ }
+{
+    (b & !mask) | (a & mask)
+}
+
+// The same of words of 32 bits.
+pub fn select32(mask: u32, word: u32, other: u32) -> u32
+    ensures { λ r. ⌜ r ≡ specs.select 32 mask word other ⌝ }
+{
+    (other & !mask) | (word & mask)
+}
+
+// A write: the bits of `value` where `mask` is set, and of `old` elsewhere. Every bit that a write gives a cell enters here, or by one of the three
+// below, at its width.
 pub fn merge(old: u64, mask: u64, value: u64) -> u64
     ensures { λ r. ⌜ r ≡ specs.merge 64 old mask value ⌝ }
 {
-    (old & !mask) | (value & mask)
+    select(mask, value, old)
 }
 
 // The same of a word of 32 bits.
@@ -16,6 +31,20 @@ pub fn merge32(old: u32, mask: u64, value: u64) -> u32
     ensures { λ r. ⌜ r ≡ specs.merge 32 old mask value ⌝ }
 {
     (merge(old as u64, mask, value) % 0x1_0000_0000) as u32
+}
+
+// The same of a byte.
+pub fn merge8(old: u8, mask: u64, value: u64) -> u8
+    ensures { λ r. ⌜ r ≡ specs.merge 8 old mask value ⌝ }
+{
+    (merge(old as u64, mask, value) % 0x100) as u8
+}
+
+// The same of one bit.
+pub fn merge1(old: bool, mask: bool, value: bool) -> bool
+    ensures { λ r. ⌜ r ≡ cond mask value old ⌝ }
+{
+    if mask { value } else { old }
 }
 
 // Bit i of w; past the last bit, false.

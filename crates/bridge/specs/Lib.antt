@@ -1,1 +1,3 @@
-pub mod Registers
+pub mod Cells
+pub mod Sources
+pub mod Changes

@@ -1,187 +1,248 @@
-// Section 8.1: the registers of the bridge's interrupt controller by name, and what a write to each does.
+// Section 8.1: the 64 sources of the bridge: drive, request, in service, which of them it is, and the two outputs.
 ghost use mathlib.Core.Path.{_≡_};
-ghost use Rattle.bridge.specs.Registers.{chipAt, distributed, registerAt, rowOf, sized, writtenOf};
-use access::Rights;
+ghost use mathlib.Core.Bool.{cond, not, _&&_, _||_};
+ghost use lib.Dec.{eqb};
+ghost use lib.ListN.{getD, set};
+ghost use Rattle.bits.specs.Bits.{bit, merge, word};
+ghost use Rattle.bridge_registers.specs.Registers.{inServiceAt};
+ghost use Rattle.bridge.specs.Sources.{driveWord, linesOf, pendingAt, readOf, requestWord, whichOf};
+ghost use Rattle.bridge.specs.Changes.{appliedOf, beforeOf, changedOf, inputOf, levelledOf, movedOf, settledOf};
+use access::Refusal;
+use answers::Outcome;
+use bridge_registers::Cell;
+use bridge_registers::Change;
+use bridge_registers::Chip;
+use bridge_registers::Effect;
+use bridge_registers::Register;
 
-// The registers of table 8-2, in the order of 01.
-pub enum Register {
-    IntMask,
-    MsiEn,
-    IntEdge,
-    SoftInt,
-    AutoCtrl0,
-    AutoCtrl1,
-    IntClr,
-    IntIsrChip0,
-    IntIsrChip1,
-    IntIrr,
-    RouteEntry(u64),
-}
-
-// The two words of the sources in service, INTISR_CHIP0 and INTISR_CHIP1, of which a search asks for one.
-pub enum Chip {
-    Chip0,
-    Chip1,
-}
-
-// What a written value may be.
-pub enum Holds {
-    Word,
-    Zero,
-    Byte,
-}
-
-// A register's row: its source number (0 but for ROUTE_ENTRY), its rights, and what a write may hold.
-pub struct Row {
-    pub source: u64,
-    pub rights: Rights,
-    pub holds: Holds,
-}
-
-// A cell that a plain write reaches.
-pub enum Cell {
-    Mask,
-    Msi,
-    Route(u64),
-}
-
-// The bits of the cell that are in mask take the values in bits.
-pub struct Effect {
-    pub cell: Cell,
+// Bit i of each word and byte i of the routes belong to source i.
+pub struct Bridge {
     pub mask: u64,
-    pub bits: u64,
+    pub msi: u64,
+    pub edge: u64,
+    pub latch: u64,
+    pub soft: u64,
+    pub level: u64,
+    pub auto: u64,
+    pub turn: u64,
+    pub routes: [u8; 64],
 }
 
-// A change that is not plain: the modes, the soft bits, the turn modes (AUTO_CTRL0), latches cleared, or none.
-pub enum Change {
-    Modes(u64),
-    Soft(u64),
-    Auto(u64),
-    Clear(u64),
-    Nothing,
-}
-
-// What an accepted write does.
-pub enum Written {
-    Plain(Effect),
-    Changed(Change),
-}
-
-// The register of a number: 01's order, from 0. From 10 on it is the route of a source.
-pub fn numbered(number: u64, source: u64) -> Register
-    ensures { λ r. ⌜ r ≡ registerAt number source ⌝ }
+// What ROUTE_ENTRY reads as: the two bits that are held.
+fn route_read(routes: [u8; 64], source: u64) -> u64
+    ensures { λ r. ⌜ r ≡ word 2 (bit (getD routes source 0)) ⌝ }
 {
-    match number {
-        0 => Register::IntMask,
-        1 => Register::MsiEn,
-        2 => Register::IntEdge,
-        3 => Register::SoftInt,
-        4 => Register::AutoCtrl0,
-        5 => Register::AutoCtrl1,
-        6 => Register::IntClr,
-        7 => Register::IntIsrChip0,
-        8 => Register::IntIsrChip1,
-        9 => Register::IntIrr,
-        _ => Register::RouteEntry(source),
+    (lanes::byte_at(&routes, source) % 4) as u64
+}
+
+// The routes after the bits in mask of one of them took values. Two bits of it are held.
+fn route_written(mut routes: [u8; 64], source: u64, mask: u64, value: u64) -> [u8; 64]
+    ensures { λ r. ⌜ r ≡ set routes source (merge 2 (getD routes source 0) mask value) ⌝ }
+{
+    let old = lanes::byte_at(&routes, source);
+    lanes::put_at(&mut routes, source, bits::merge8(old, mask, value) % 4);
+    routes
+}
+
+// What settling needs of the bridge before a change: the modes, the drives and the requests.
+pub struct Before {
+    pub edge: u64,
+    pub drive: u64,
+    pub request: u64,
+}
+
+fn either(a: u64, b: u64) -> u64
+    ensures { λ r. ⌜ r ≡ word 64 (λ i. bit a i || bit b i) ⌝ }
+{
+    a | b
+}
+
+// The requests that are neither masked nor sent as messages.
+fn unmasked(request: u64, mask: u64, msi: u64) -> u64
+    ensures { λ r. ⌜ r ≡ word 64 (λ i. bit request i && (not (bit mask i) && not (bit msi i))) ⌝ }
+{
+    request & (!mask & !msi)
+}
+
+// What a search answers, by the number that it found: 64 where there is none.
+fn found(source: u64) -> Outcome
+    ensures { λ r. ⌜ r ≡ cond (not (eqb source 64)) (Outcome.Value source) (Outcome.Refused Refusal.NoneInService) ⌝ }
+{
+    if source == 64 {
+        return Outcome::Refused(Refusal::NoneInService);
     }
+    Outcome::Value(source)
 }
 
-// The word of a number: 0 is INTISR_CHIP0, any other INTISR_CHIP1.
-pub fn chip_numbered(number: u64) -> Chip
-    ensures { λ r. ⌜ r ≡ chipAt number ⌝ }
-{
-    if number == 0 {
-        return Chip::Chip0;
+impl Bridge {
+    // The input or the soft bit.
+    fn drive(self) -> u64
+        ensures { λ r. ⌜ r ≡ driveWord self ⌝ }
+    {
+        either(self.level, self.soft)
     }
-    Chip::Chip1
-}
 
-fn row_with(rights: Rights, holds: Holds) -> Row
-    ensures { λ r. ⌜ r ≡ record { source = 0; rights = rights; holds = holds } ⌝ }
-{
-    Row {
-        source: 0,
-        rights: rights,
-        holds: holds,
+    // INTIRR: the latch in edge mode, the drive in level mode.
+    fn requests(self) -> u64
+        ensures { λ r. ⌜ r ≡ requestWord self ⌝ }
+    {
+        bits::select(self.edge, self.latch, self.drive())
     }
-}
 
-// The row of a register.
-pub fn row_of(register: Register) -> Row
-    ensures { λ r. ⌜ r ≡ rowOf register ⌝ }
-{
-    match register {
-        Register::IntMask => row_with(Rights::Both, Holds::Word),
-        Register::MsiEn => row_with(Rights::Both, Holds::Word),
-        Register::IntEdge => row_with(Rights::Both, Holds::Word),
-        Register::SoftInt => row_with(Rights::Both, Holds::Word),
-        Register::AutoCtrl0 => row_with(Rights::Both, Holds::Word),
-        Register::AutoCtrl1 => row_with(Rights::Both, Holds::Zero),
-        Register::IntClr => row_with(Rights::Write, Holds::Word),
-        Register::IntIsrChip0 => row_with(Rights::Read, Holds::Word),
-        Register::IntIsrChip1 => row_with(Rights::Read, Holds::Word),
-        Register::IntIrr => row_with(Rights::Read, Holds::Word),
-        Register::RouteEntry(source) => Row {
-            source: source,
-            rights: Rights::Both,
-            holds: Holds::Byte,
-        },
+    fn pending(self) -> u64
+        ensures { λ r. ⌜ r ≡ word 64 (pendingAt self) ⌝ }
+    {
+        unmasked(self.requests(), self.mask, self.msi)
     }
-}
 
-// A route is a byte; every other register is a word, as every u64 is.
-pub fn fits(holds: Holds, value: u64) -> bool
-    ensures { λ r. ⌜ r ≡ sized holds value ⌝ }
-{
-    match holds {
-        Holds::Word => true,
-        Holds::Zero => true,
-        Holds::Byte => value <= 255,
+    // INTISR_CHIP0 or INTISR_CHIP1.
+    fn in_service(self, chip: Chip) -> u64
+        ensures { λ r. ⌜ r ≡ readOf self (inServiceAt chip) ⌝ }
+    {
+        let routes = self.routes;
+        let pending = self.pending();
+        match chip {
+            Chip::Chip0 => turns::shown_on_0(routes, self.auto, self.turn, pending),
+            Chip::Chip1 => turns::shown_on_1(routes, self.auto, self.turn, pending),
+        }
     }
-}
 
-// AUTO_CTRL1 holds 0 alone.
-pub fn held(holds: Holds, value: u64) -> bool
-    ensures { λ r. ⌜ r ≡ distributed holds value ⌝ }
-{
-    match holds {
-        Holds::Word => true,
-        Holds::Zero => value == 0,
-        Holds::Byte => true,
+    // The two outputs, before the gate, output k as bit k: some source is in service for it.
+    pub fn lines(self) -> u8
+        ensures { λ r. ⌜ r ≡ linesOf self ⌝ }
+    {
+        let routes = self.routes;
+        turns::outputs(routes, self.auto, self.turn, self.pending())
     }
-}
 
-fn plain(cell: Cell, mask: u64, bits: u64) -> Written
-    ensures { λ r. ⌜ r ≡ Written.Plain (record { cell = cell; mask = mask; bits = bits }) ⌝ }
-{
-    Written::Plain(Effect {
-        cell: cell,
-        mask: mask,
-        bits: bits,
-    })
-}
+    // What a register reads as. No read of INTCLR is accepted.
+    pub fn read(self, register: Register) -> u64
+        ensures { λ r. ⌜ r ≡ readOf self register ⌝ }
+    {
+        let routes = self.routes;
+        match register {
+            Register::IntMask => self.mask,
+            Register::MsiEn => self.msi,
+            Register::IntEdge => self.edge,
+            Register::SoftInt => self.soft,
+            Register::AutoCtrl0 => self.auto,
+            Register::AutoCtrl1 => 0,
+            Register::IntClr => 0,
+            Register::IntIsrChip0 => self.in_service(Chip::Chip0),
+            Register::IntIsrChip1 => self.in_service(Chip::Chip1),
+            Register::IntIrr => self.requests(),
+            Register::RouteEntry(source) => route_read(routes, source),
+        }
+    }
 
-fn changed(change: Change) -> Written
-    ensures { λ r. ⌜ r ≡ Written.Changed change ⌝ }
-{
-    Written::Changed(change)
-}
+    // The lowest-numbered source in INTISR_CHIP0 or INTISR_CHIP1; refused where there is none.
+    pub fn which(self, chip: Chip) -> Outcome
+        ensures { λ r. ⌜ r ≡ whichOf self chip ⌝ }
+    {
+        found(search::lowest(self.in_service(chip)))
+    }
 
-// What a write to a register does. No write to INTISR_CHIP0, INTISR_CHIP1 or INTIRR is accepted.
-pub fn write(register: Register, value: u64) -> Written
-    ensures { λ r. ⌜ r ≡ writtenOf register value ⌝ }
-{
-    match register {
-        Register::IntMask => plain(Cell::Mask, 0xffff_ffff_ffff_ffff, value),
-        Register::MsiEn => plain(Cell::Msi, 0xffff_ffff_ffff_ffff, value),
-        Register::IntEdge => changed(Change::Modes(value)),
-        Register::SoftInt => changed(Change::Soft(value)),
-        Register::AutoCtrl0 => changed(Change::Auto(value)),
-        Register::AutoCtrl1 => changed(Change::Nothing),
-        Register::IntClr => changed(Change::Clear(value)),
-        Register::IntIsrChip0 => changed(Change::Nothing),
-        Register::IntIsrChip1 => changed(Change::Nothing),
-        Register::IntIrr => changed(Change::Nothing),
-        Register::RouteEntry(source) => plain(Cell::Route(source), 3, value),
+    // The bridge after an effect of a plain write.
+    pub fn applied(mut self, effect: Effect) -> Bridge
+        ensures { λ r. ⌜ r ≡ appliedOf self effect ⌝ }
+    {
+        let routes = self.routes;
+        let cell = effect.cell;
+        let mask = effect.mask;
+        let bits = effect.bits;
+        match cell {
+            Cell::Mask => {
+                self.mask = bits::merge(self.mask, mask, bits);
+                self
+            }
+            Cell::Msi => {
+                self.msi = bits::merge(self.msi, mask, bits);
+                self
+            }
+            Cell::Route(i) => {
+                let new = route_written(routes, i, mask, bits);
+                self.routes = new;
+                self
+            }
+        }
+    }
+
+    // What a change itself moves.
+    fn moved(mut self, change: Change) -> Bridge
+        ensures { λ r. ⌜ r ≡ movedOf self change ⌝ }
+    {
+        match change {
+            Change::Edge { mask, bits } => {
+                self.edge = bits::merge(self.edge, mask, bits);
+                self
+            }
+            Change::Soft { mask, bits } => {
+                self.soft = bits::merge(self.soft, mask, bits);
+                self
+            }
+            Change::Auto { mask, bits } => {
+                self.auto = bits::merge(self.auto, mask, bits);
+                self
+            }
+            Change::Latch { mask, bits } => {
+                self.latch = bits::merge(self.latch, mask, bits);
+                self
+            }
+            Change::Nothing => self,
+        }
+    }
+
+    // What settling needs of the bridge before a change.
+    fn before(self) -> Before
+        ensures { λ r. ⌜ r ≡ beforeOf self ⌝ }
+    {
+        Before {
+            edge: self.edge,
+            drive: self.drive(),
+            request: self.requests(),
+        }
+    }
+
+    // What follows from a change: the edge-latch rule, from the modes and drives before it to those after it; then the turns, from the requests.
+    fn settled(mut self, before: Before) -> Bridge
+        ensures { λ r. ⌜ r ≡ settledOf before self ⌝ }
+    {
+        let routes = self.routes;
+        self.latch = bits::latched(
+            before.edge,
+            self.edge,
+            before.drive,
+            self.drive(),
+            self.latch,
+        );
+        self.turn = turns::turned(
+            routes,
+            self.auto,
+            self.turn,
+            before.request,
+            self.requests(),
+        );
+        self
+    }
+
+    // The bridge after a change that is not plain.
+    pub fn changed(self, change: Change) -> Bridge
+        ensures { λ r. ⌜ r ≡ changedOf self change ⌝ }
+    {
+        self.moved(change).settled(self.before())
+    }
+
+    fn levelled(mut self, source: u64, level: bool) -> Bridge
+        ensures { λ r. ⌜ r ≡ levelledOf self source level ⌝ }
+    {
+        self.level = bits::put(self.level, source, level);
+        self
+    }
+
+    // The bridge after an input change.
+    pub fn input(self, source: u64, level: bool) -> Bridge
+        ensures { λ r. ⌜ r ≡ inputOf self source level ⌝ }
+    {
+        self.levelled(source, level).settled(self.before())
     }
 }

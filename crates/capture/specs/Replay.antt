@@ -1,10 +1,14 @@
 -- The replay of a capture (Q-7): one equation for every device, text, buffer and used length.
---   outcomeOf   the refusal that the text shows first, and where     dumpOf     the whole dump
---   replayOf    the answer                                           bufferOf   the buffer afterwards
+--   headed        the header is whole                 eventsOf     what the simulation commands call for
+--   textOutcome   the first refusal of the text       textPlace    where it shows
+--   dumpOf        the whole dump                      deviceOf     the device after all changes
+--   outcomeOf     that refusal, or 12 where the text has none and the dump has no room
+--   replayOf      the answer                          bufferOf     the buffer afterwards
+--   replayFrom, bufferFrom   the same of the text from a place on
 use Prim.Native.Nat.{ℕ, _+_}
 use mathlib.Core.Bool.{Bool, cond}
 use mathlib.Core.List.{List, _++_}
-use lib.ListN.{length}
+use lib.ListN.{length, drop}
 use Rattle.text.specs.Buffers.{fits, putOf}
 use Rattle.device.specs.declared.Device.{Device}
 use Rattle.capture_header.specs.Header.{atCommand, badField}
@@ -74,3 +78,14 @@ replayOf d s out used = answerOf (outcomeOf s out used d) (textPlace s) used (le
 -- So is the buffer.
 unfoldable pub bufferOf : Device → List ℕ → List ℕ → ℕ → List ℕ
 bufferOf d s out used = cond (accepted (outcomeOf s out used d)) (putOf out used (dumpOf s d)) out
+
+-- ---- from a place on
+
+-- The text from that place on is the capture; the place of a refusal is counted in the whole text.
+unfoldable pub replayFrom : Device → List ℕ → ℕ → List ℕ → ℕ → Replayed
+replayFrom d s at out used =
+    let r = replayOf d (drop at s) out used in
+    record { outcome = r .outcome; place = at + r .place; used = r .used; device = r .device }
+
+unfoldable pub bufferFrom : Device → List ℕ → ℕ → List ℕ → ℕ → List ℕ
+bufferFrom d s at out used = bufferOf d (drop at s) out used

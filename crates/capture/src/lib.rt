@@ -2,7 +2,7 @@
 ghost use mathlib.Core.Path.{_≡_};
 ghost use mathlib.Core.Bool.{cond};
 ghost use mathlib.Core.List.{List, []};
-ghost use Prim.Native.Nat.{ℕ, min};
+ghost use Prim.Native.Nat.{ℕ};
 ghost use lib.ListN.{length};
 ghost use Rattle.capture_tokens.specs.Tokens.{tokensFrom};
 ghost use Rattle.capture_ids.specs.declared.Look.{Look};
@@ -10,7 +10,7 @@ ghost use Rattle.capture_ids.specs.Table.{lookIn};
 ghost use Rattle.capture_commands.specs.Commands.{stateStart};
 ghost use Rattle.capture_run.specs.Run.{linesOf};
 ghost use Rattle.capture_times.specs.Times.{timesStart};
-ghost use Rattle.capture.specs.Replay.{replayOf, bufferOf};
+ghost use Rattle.capture.specs.Replay.{replayOf, bufferOf, replayFrom, bufferFrom};
 ghost use Rattle.capture.specs.Private.{Walks, Wholes, Rests};
 use capture_commands::Outcome;
 use capture_commands::State;
@@ -106,7 +106,7 @@ fn walk_all(
     walk(s, from, inputs, known, first, out, p, write)
 }
 
-fn either(first: bool, a: usize, b: usize) -> usize
+fn choose(first: bool, a: usize, b: usize) -> usize
     ensures { λ r. ⌜ r ≡ cond first a b ⌝ }
 {
     if first { a } else { b }
@@ -129,7 +129,7 @@ fn replay_rest(
     let p = tried.pen;
     let mode = b.mode;
     let outcome = capture_commands::with_room(capture_commands::judged(mode), !p.full);
-    let place = either(capture_commands::refused(mode), b.place, s.len());
+    let place = choose(capture_commands::refused(mode), b.place, s.len());
     if capture_commands::accepted(outcome) {
         walk_all(s, from, inputs, known, first, out, true);
         let last = tried.now;
@@ -149,14 +149,8 @@ fn replay_rest(
     }
 }
 
-fn least(a: usize, b: usize) -> usize
-    ensures { λ r. ⌜ r ≡ min a b ⌝ }
-{
-    if a < b { a } else { b }
-}
-
-// Replays a capture on a device, and writes the dump behind the used bytes of a buffer.
-pub fn replay(d: Device, s: &[u8], out: &mut [u8], used: usize) -> Replayed
+// The capture is the whole text.
+fn replay(d: Device, s: &[u8], out: &mut [u8], used: usize) -> Replayed
     ensures { λ r. ⌜ r ≡ replayOf d (now (s .entry)) (now (out .entry)) used ⌝ }
     ensures { λ r. ⌜ now (out .exit) ≡ bufferOf d (now (s .entry)) (now (out .entry)) used ⌝ }
 {
@@ -166,7 +160,7 @@ pub fn replay(d: Device, s: &[u8], out: &mut [u8], used: usize) -> Replayed
     let head = headed.head;
     let field = head.field;
     if capture_header::at_command(field) {
-        let start = least(used, out.len());
+        let start = text::least(used, out.len());
         let r = replay_rest(d, s, headed.at, &inputs, &known, &mut out[start..]);
         let device = r.device;
         let outcome = r.outcome;
@@ -179,8 +173,25 @@ pub fn replay(d: Device, s: &[u8], out: &mut [u8], used: usize) -> Replayed
     }
     Replayed {
         outcome: Outcome::BadText,
-        place: either(capture_header::bad_field(field), head.place, s.len()),
+        place: choose(capture_header::bad_field(field), head.place, s.len()),
         used: used,
         device: d,
+    }
+}
+
+// Replays the capture that stands in a text from a place on, on a device, and writes the dump behind the used bytes of a buffer.
+pub fn replay_from(d: Device, s: &[u8], at: usize, out: &mut [u8], used: usize) -> Replayed
+    ensures { λ r. ⌜ r ≡ replayFrom d (now (s .entry)) at (now (out .entry)) used ⌝ }
+    ensures { λ r. ⌜ now (out .exit) ≡ bufferFrom d (now (s .entry)) at (now (out .entry)) used ⌝ }
+{
+    let start = text::least(at, s.len());
+    let r = replay(d, &s[start..], out, used);
+    let device = r.device;
+    let outcome = r.outcome;
+    Replayed {
+        outcome: outcome,
+        place: at + r.place,
+        used: r.used,
+        device: device,
     }
 }

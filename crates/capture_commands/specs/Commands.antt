@@ -1,4 +1,4 @@
--- The simulation commands of a capture, token by token (readings Q-7, 2 and 5 to 7): what each token calls for, and the refusals of the text.
+-- The simulation commands of a capture, token by token (R29, R33, R38 and R39 of docs/DECISIONS.md): what each token calls for, and the refusals of the text.
 --     command   #TIME, a change, $comment any text $end, or one of `dumps`, then changes, $end
 --     change    one of 0 1 x X z Z and the ID in one token; b or B and digits 0 1 x X z Z in one token, then the ID; r or R and a real number, then the ID
 -- A mode says what the next token is: Command, the first of a command; Comment, inside one; Dump, a change or the $end of a dump; Id and DumpId, the ID of
@@ -12,6 +12,7 @@ use mathlib.Core.Bool.{Bool, true, false, cond, _&&_, _||_}
 use mathlib.Core.List.{List, [], _∷_}
 use lib.Dec.{eqb, ltb}
 use lib.ListN.{getD, drop}
+use Rattle.access.specs.Refusal.{badText, earlierTime, noRoom}
 use Rattle.text.specs.Ascii.{ascii}
 use Rattle.text.specs.Tokens.{sameOf}
 use Rattle.numbers.specs.declared.Number.{Number}
@@ -33,9 +34,9 @@ use Rattle.capture_commands.specs.declared.Outcome.the-variants.{Accepte
 
 unfoldable pub outcomeNumber : Outcome → ℕ
 outcomeNumber Accepted = 0
-outcomeNumber BadText = 10
-outcomeNumber EarlierTime = 11
-outcomeNumber NoRoom = 12
+outcomeNumber BadText = badText
+outcomeNumber EarlierTime = earlierTime
+outcomeNumber NoRoom = noRoom
 
 -- 12 comes after the whole file.
 unfoldable pub withRoom : Outcome → Bool → Outcome

@@ -58,9 +58,9 @@ impl Outcome {
     {
         match self {
             Outcome::Accepted => 0,
-            Outcome::BadText => 10,
-            Outcome::EarlierTime => 11,
-            Outcome::NoRoom => 12,
+            Outcome::BadText => access::BAD_TEXT,
+            Outcome::EarlierTime => access::EARLIER_TIME,
+            Outcome::NoRoom => access::NO_ROOM,
         }
     }
 }

@@ -1,7 +1,6 @@
 -- Pieces put one after the other are put as one.
---   inked-emitted   what is put whole, as a piece      join       two pieces in a row      nothing   no piece
+--   inked-emitted   what is put whole, as a piece      join       two pieces in a row
 --   measured        pieces that are only measured      overfull   pieces that do not fit   written   pieces written once they were measured
---   again           the pen after a piece, where no further piece is put
 --   pen-join        the place after two pieces         pen-fits   a pen that is not full   pen-full-size   a text that is too long
 use Prim.Native.Nat.{ℕ, _+_, _<_, _≤_}
 use mathlib.Core.Path.{_≡_, refl, sym, ap, ap₂, _∙_}
@@ -64,10 +63,6 @@ pen-join n p a b = by-full (p .full) refl
     by-full true e = ap (λ q. penOf n q b) (pen-full n p a e) ∙ pen-full n stuck b refl ∙ sym (pen-full n p (a ++ b) e)
     by-full false e = by-room e (ltb n (p .at + length a)) refl
 
--- Where no further piece is put the pen stays.
-pub pen-again : (n : ℕ) (p : Pen) (s : List ℕ) → penOf n (penOf n p s) [] ≡ penOf n p s
-pen-again n p s = pen-join n p s [] ∙ ap (penOf n p) (append-nil s)
-
 -- ---- the buffer
 
 pub put-fits : (out : List ℕ) (at : ℕ) (s : List ℕ) → at + length s ≤ length out → putOf out at s ≡ take at out ++ s ++ drop (at + length s) out
@@ -125,10 +120,6 @@ join {out} {w} {p} {a} {q} {mid} {b} {r} {after} x y = record {
   where
     place : r ≡ penOf (length out) p (a ++ b)
     place = y .place ∙ ap₂ (λ n k. penOf n k b) (x .size) (x .place) ∙ pen-join (length out) p a b
-
--- After a piece the pen stays where no further piece is put.
-pub again : {out : List ℕ} {w : Bool} {p : Pen} {s : List ℕ} {q : Pen} {after : List ℕ} → Emitted out w p s q after → penOf (length after) q [] ≡ q
-again {out} {w} {p} {s} x = ap₂ (λ n k. penOf n k []) (x .size) (x .place) ∙ pen-again (length out) p s ∙ sym (x .place)
 
 -- A pen that was free and is full: the text is longer than the buffer.
 pub pen-full-size : (n : ℕ) (s : List ℕ) → penOf n (free 0) s .full ≡ true → n < length s
@@ -193,15 +184,3 @@ written {out} {w} {p} {s} {q} {mid} {r} {after} e x f y = record {
   where
     place : r ≡ penOf (length out) p s
     place = y .place ∙ ap (λ n. penOf n p s) (x .size)
-
--- No piece: of a pen that nothing moves, such as one after a piece.
-pub nothing : {out : List ℕ} {w : Bool} {p : Pen} → penOf (length out) p [] ≡ p → Emitted out w p [] p out
-nothing {out} {w} {p} e = record {
-  place = sym e;
-  size = refl;
-  kept = λ x. refl;
-  inked = λ x f.
-      let h = pen-fits (length out) p [] (ap (λ (k : Pen). k .full) e ∙ f) .1 in
-      let z : p .at + 0 ≡ p .at = omega arith in
-      sym (put-fits out (p .at) [] h ∙ ap₂ (λ x k. x ++ drop k out) (append-nil (take (p .at) out)) z ∙ take-append-drop (p .at) out);
-}

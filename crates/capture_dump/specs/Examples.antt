@@ -33,7 +33,7 @@ no-mark : markText (time 9 false (lines true false true false)) (lines true fals
 unfolding markText someDiffers differs
 no-mark = refl
 
--- Several digits. The largest time is in proofs/Largest.antt: it would take too many steps here.
+-- Several digits.
 several-digits : markText (time 1070 false (lines true false true true)) (lines false true true true) ≡ ascii "#1070\n0a\n1b\n"
 unfolding markText someDiffers differs timeText lineText valueText digitsOf digitsWithin glyph
 several-digits = refl

@@ -1,4 +1,4 @@
--- The forms of a token (readings Q-7, 3 and 5), as states of one automaton that reads bytes. A token has a form if its bytes lead from the
+-- The forms of a token (R30, R36 and R38 of docs/DECISIONS.md), as states of one automaton that reads bytes. A token has a form if its bytes lead from the
 -- form's first state to one of those that are right; where no rule is given, the token is bad and stays so.
 --   classOf   what a byte is                      rules   what follows each state
 --   nextOf    the state after a byte              scanOf  the state after a text

@@ -1,4 +1,4 @@
--- The header of a capture, token by token (readings Q-7, 2 to 5):
+-- The header of a capture, token by token (R29, R33 and R35 to R37 of docs/DECISIONS.md):
 --     declaration   $var TYPE SIZE ID REFERENCE $end, or a section: one of `sections`, any text, $end
 -- A field says what the next token is: Command, the first of a declaration, or of the simulation commands; Text, inside a section; Kind, Size, Id and
 -- Name, of a variable's TYPE, SIZE, ID and REFERENCE; Bad, the text is refused.

@@ -1,39 +1,49 @@
 -- A header from a state on: where it ends, and a token of it; what a declaration that has ended adds.
-use Prim.Native.Nat.{ℕ}
+use Prim.Native.Nat.{ℕ, _-_}
 use mathlib.Core.Path.{_≡_, refl, sym, ap, ap₂, _∙_}
 use mathlib.Core.Bool.{true, false}
 use mathlib.Core.List.{List, [], _∷_}
 use native.Mathlib.Omega.{arith}
 use borrow.Table.Steps.{cases}
-use lib.ListN.{length, length-set}
-use Rattle.capture_tokens.specs.Tokens.{Token, tokensFrom}
-use Rattle.capture_tokens.proofs.Tokens.{past-the-end}
+use lib.ListN.{length, take, drop, length-set}
+use Rattle.text.specs.declared.Span.{Span}
+use Rattle.capture_tokens.specs.Tokens.{token, tokensFrom}
+use Rattle.capture_tokens.proofs.Tokens.{Found, past-the-end}
 use Rattle.capture_header.specs.declared.Head.{Head}
 use Rattle.capture_header.specs.Header.{headNext, ends, begins}
 use Rattle.capture_ids.specs.declared.Headed.{Headed}
 use Rattle.capture_ids.specs.declared.Look.{Look}
-use Rattle.capture_ids.specs.Ids.{Variable, Header, header, headerFrom, headerOf, headedOf, added, lookFrom, placeOf}
+use Rattle.capture_ids.specs.Ids.{Variable, Header, headerFrom, headerOf, headedOf, added, lookFrom, placeOf}
 use Rattle.capture_ids.specs.Table.{slotOf, inputsAt, knownAt, inputsNoted, knownNoted}
+use Rattle.capture_ids.specs.Private.{left, Stops, Goes, Passed}
+use Rattle.capture_ids.proofs.Bools.{never}
 
--- ---- the header from a state on
-
-abbrev pub left : List ℕ → Head → ℕ → Header
-left s h at = headerFrom s h (tokensFrom s at)
+-- ---- the header from a state on, by its next token
 
 module _ (s : List ℕ) (h : Head) (at : ℕ) where
-  ended : tokensFrom s at ≡ [] → left s h at ≡ header h [] []
-  unfolding headerFrom
-  ended e = ap (headerFrom s h) e
+  pub at-end : tokensFrom s at ≡ [] → Passed s h at (record { ended = true; head = h; at = length s })
+  unfolding headerFrom placeOf
+  at-end e =
+      let n : tokensFrom s (length s) ≡ [] = past-the-end s (length s) (omega arith) in
+      record { stops = λ y. record { whole = rw (e, n); place = rw n }; goes = λ y. absurd (never (sym y)) }
 
-  module _ (t : Token) (ts : List Token) (e : tokensFrom s at ≡ t ∷ ts) where
-    stopped : begins (h .field) (t .text) ≡ true → left s h at ≡ header h [] (t ∷ ts)
-    unfolding headerFrom
-    stopped b = ap (headerFrom s h) e ∙ rw b
+  module _ (t : Span) (f : Found s at t) where
+    abbrev text : List ℕ
+    text = take (t .end - t .start) (drop (t .start) s)
 
-    passed : begins (h .field) (t .text) ≡ false
-        → left s h at ≡ header (headerFrom s (headNext h t) ts .head) (added s h (headNext h t) (headerFrom s (headNext h t) ts .variables)) (headerFrom s (headNext h t) ts .rest)
+    pub before-it : begins (h .field) text ≡ true → Passed s h at (record { ended = true; head = h; at = t .start })
+    unfolding headerFrom placeOf
+    before-it b = record {
+      stops = λ y. record { whole = rw (f .again, f .first, b); place = rw (f .again, f .first) };
+      goes = λ y. absurd (never (sym y));
+    }
+
+    pub past-it : begins (h .field) text ≡ false → (k : Head) → k ≡ headNext h (token (t .start) text) → Passed s h at (record { ended = false; head = k; at = t .end })
     unfolding headerFrom
-    passed b = ap (headerFrom s h) e ∙ rw b
+    past-it b k q = record {
+      stops = λ y. absurd (never y);
+      goes = λ y. record { whole = rw (f .first, b, q); further = f .further; inside = f .inside };
+    }
 
 -- ---- a fold over the variables, one declaration after the other
 
@@ -43,23 +53,15 @@ module _ {A : Type 0} (fold : A → List Variable → A) (none : (a : A) → fol
 
   -- What is folded so far, with the rest of the header, is the whole: at the header's end, and past one of its tokens.
   module _ (s : List ℕ) (a : A) (h : Head) (at : ℕ) (whole : A) (inv : fold a (left s h at .variables) ≡ whole) where
-    at-end : (ts : List Token) → left s h at ≡ header h [] ts → a ≡ whole
-    at-end ts e = sym (ap (λ (r : Header). fold a (r .variables)) e ∙ none a) ∙ inv
+    pub fold-stops : (n : ℕ) → Stops s h at n → a ≡ whole
+    fold-stops n e = sym (ap (λ (r : Header). fold a (r .variables)) (e .whole) ∙ none a) ∙ inv
 
-    pub fold-ended : tokensFrom s at ≡ [] → a ≡ whole
-    fold-ended e = at-end [] (ended s h at e)
-
-    module _ (t : Token) (ts : List Token) (e : tokensFrom s at ≡ t ∷ ts) where
-      pub fold-stopped : begins (h .field) (t .text) ≡ true → a ≡ whole
-      fold-stopped b = at-end (t ∷ ts) (stopped s h at t ts e b)
-
-      pub fold-passed : begins (h .field) (t .text) ≡ false → (k : Head) → k ≡ headNext h t → (b : A) → b ≡ fold a (added s h k []) → fold b (headerFrom s k ts .variables) ≡ whole
-      fold-passed n k q b p =
-          ap (λ (z : A). fold z (headerFrom s k ts .variables)) p
-          ∙ sym (more s h k a (headerFrom s k ts .variables))
-          ∙ ap (λ (g : Head). fold a (added s h g (headerFrom s g ts .variables))) q
-          ∙ sym (ap (λ (r : Header). fold a (r .variables)) (passed s h at t ts e n))
-          ∙ inv
+    pub fold-goes : (k : Head) (n : ℕ) → Goes s h at k n → (b : A) → b ≡ fold a (added s h k []) → fold b (left s k n .variables) ≡ whole
+    fold-goes k n e b p =
+        ap (λ (z : A). fold z (left s k n .variables)) p
+        ∙ sym (more s h k a (left s k n .variables))
+        ∙ sym (ap (λ (r : Header). fold a (r .variables)) (e .whole))
+        ∙ inv
 
 -- ---- the header's end
 
@@ -67,35 +69,14 @@ abbrev pub headed : Head → ℕ → Headed
 headed h n = record { head = h; at = n }
 
 module _ (s : List ℕ) (h : Head) (at : ℕ) (end : left s h at .head ≡ headerOf s .head) (rest : left s h at .rest ≡ headerOf s .rest) where
-  heads : (ts : List Token) (n : ℕ) → left s h at ≡ header h [] ts → n ≡ placeOf s ts → headed h n ≡ headedOf s
-  heads ts n e q =
-      let p : h ≡ headerOf s .head = sym (ap (λ (r : Header). r .head) e) ∙ end in
-      let g : n ≡ placeOf s (headerOf s .rest) = q ∙ ap (placeOf s) (sym (ap (λ (r : Header). r .rest) e) ∙ rest) in
-      ap₂ headed p g
+  pub headed-stops : (n : ℕ) → Stops s h at n → (headed h n ≡ headedOf s) × (tokensFrom s n ≡ headerOf s .rest)
+  headed-stops n e =
+      let p : h ≡ headerOf s .head = sym (ap (λ (r : Header). r .head) (e .whole)) ∙ end in
+      let q : tokensFrom s n ≡ headerOf s .rest = sym (ap (λ (r : Header). r .rest) (e .whole)) ∙ rest in
+      (ap₂ headed p (e .place ∙ ap (placeOf s) q), q)
 
-  pub headed-ended : tokensFrom s at ≡ [] → headed h (length s) ≡ headedOf s
-  unfolding placeOf
-  headed-ended e = heads [] (length s) (ended s h at e) refl
-
-  -- The tokens from that place on are the others.
-  pub rest-ended : tokensFrom s at ≡ [] → tokensFrom s (length s) ≡ headerOf s .rest
-  rest-ended e = past-the-end s (length s) (omega arith) ∙ sym (ap (λ (r : Header). r .rest) (ended s h at e)) ∙ rest
-
-  module _ (t : Token) (ts : List Token) (e : tokensFrom s at ≡ t ∷ ts) where
-    pub rest-stopped : begins (h .field) (t .text) ≡ true → (n : ℕ) → tokensFrom s n ≡ tokensFrom s at → tokensFrom s n ≡ headerOf s .rest
-    rest-stopped b n q = q ∙ e ∙ sym (ap (λ (r : Header). r .rest) (stopped s h at t ts e b)) ∙ rest
-
-    pub headed-stopped : begins (h .field) (t .text) ≡ true → headed h (t .at) ≡ headedOf s
-    unfolding placeOf
-    headed-stopped b = heads (t ∷ ts) (t .at) (stopped s h at t ts e b) refl
-
-    pub headed-passed : begins (h .field) (t .text) ≡ false → (k : Head) → k ≡ headNext h t
-        → (headerFrom s k ts .head ≡ headerOf s .head) × (headerFrom s k ts .rest ≡ headerOf s .rest)
-    headed-passed b k q =
-        let p = passed s h at t ts e b in (
-          ap (λ (g : Head). headerFrom s g ts .head) q ∙ sym (ap (λ (r : Header). r .head) p) ∙ end,
-          ap (λ (g : Head). headerFrom s g ts .rest) q ∙ sym (ap (λ (r : Header). r .rest) p) ∙ rest,
-        )
+  pub headed-goes : (k : Head) (n : ℕ) → Goes s h at k n → (left s k n .head ≡ headerOf s .head) × (left s k n .rest ≡ headerOf s .rest)
+  headed-goes k n e = (sym (ap (λ (r : Header). r .head) (e .whole)) ∙ end, sym (ap (λ (r : Header). r .rest) (e .whole)) ∙ rest)
 
 -- ---- the three folds
 

@@ -1,4 +1,4 @@
--- The declarations of a capture's header (readings Q-7, 2 to 5).
+-- The declarations of a capture's header (R33 and R35 to R37 of docs/DECISIONS.md).
 --   headerOf    the header's state at its end, the variables that it declares, and the tokens after it
 --   lookOf      what some declarations say of an id
 use Prim.Native.Nat.{ℕ}

@@ -4,6 +4,7 @@ ghost use mathlib.Core.Path.{_≡_};
 ghost use mathlib.Core.List.{[], _∷_};
 ghost use lib.ListN.{take, drop};
 ghost use Rattle.capture_tokens.specs.Tokens.{tokensFrom};
+ghost use Rattle.capture_ids.specs.Private.{Passed};
 ghost use Rattle.capture_ids.specs.Ids as ids;
 ghost use Rattle.capture_ids.specs.Ids.{headerOf, lookOf, headedOf, added};
 ghost use Rattle.capture_ids.specs.Table.{slotOf, inputsAt, knownAt, inputsNoted, knownNoted, lookIn};
@@ -28,6 +29,13 @@ pub struct Look {
 pub struct Headed {
     pub head: Head,
     pub at: usize,
+}
+
+// Whether the header ends, the state after its next token where it does not, and the place where it ends or that token does.
+struct Past {
+    ended: bool,
+    head: Head,
+    at: usize,
 }
 
 // So many bytes of a text from a place on, or those that there are.
@@ -101,6 +109,36 @@ fn note(s: &[u8], before: Head, after: Head, inputs: &mut [u64], known: &mut [u6
     }
 }
 
+// The next token of a header, from a state and a place on.
+fn pass(s: &[u8], h: Head, at: usize) -> Past
+    ensures { λ r. ⌜ Passed (now (s .entry)) h at r ⌝ }
+{
+    let span = token(s, at);
+    let start = span.start;
+    let end = span.end;
+    if start == end {
+        return Past {
+            ended: true,
+            head: h,
+            at: s.len(),
+        };
+    }
+    let f = h.field;
+    if begins(f, &s[start..end]) {
+        return Past {
+            ended: true,
+            head: h,
+            at: start,
+        };
+    }
+    let after = next(h, &s[start..end], start);
+    Past {
+        ended: false,
+        head: after,
+        at: end,
+    }
+}
+
 // Reads the header of a text, and notes its variables in a table.
 pub fn index(s: &[u8], inputs: &mut [u64], known: &mut [u64]) -> Headed
     ensures { λ r. ⌜ r ≡ headedOf (now (s .entry)) ⌝ }
@@ -110,28 +148,15 @@ pub fn index(s: &[u8], inputs: &mut [u64], known: &mut [u64]) -> Headed
 {
     let mut h = start();
     let mut at = 0;
-    while at < s.len() {
-        let span = token(s, at);
-        let start = span.start;
-        let end = span.end;
-        if start == end {
-            return Headed {
-                head: h,
-                at: s.len(),
-            };
+    loop {
+        let past = pass(s, h, at);
+        at = past.at;
+        if past.ended {
+            return Headed { head: h, at };
         }
-        let f = h.field;
-        if begins(f, &s[start..end]) {
-            return Headed { head: h, at: start };
-        }
-        let after = next(h, &s[start..end], start);
+        let after = past.head;
         note(s, h, after, inputs, known);
         h = after;
-        at = end;
-    }
-    Headed {
-        head: h,
-        at: s.len(),
     }
 }
 
@@ -162,23 +187,16 @@ pub fn find(s: &[u8], x: &[u8]) -> Look
     };
     let mut h = start();
     let mut at = 0;
-    while at < s.len() {
-        let span = token(s, at);
-        let start = span.start;
-        let end = span.end;
-        if start == end {
+    loop {
+        let past = pass(s, h, at);
+        if past.ended {
             return look;
         }
-        let f = h.field;
-        if begins(f, &s[start..end]) {
-            return look;
-        }
-        let after = next(h, &s[start..end], start);
+        let after = past.head;
         look = noted(s, look, h, after, x);
         h = after;
-        at = end;
+        at = past.at;
     }
-    look
 }
 
 // What the header says of an id, by the table where the id has a slot.

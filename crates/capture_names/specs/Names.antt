@@ -1,4 +1,4 @@
--- The input that a reference names (readings Q-7, 3 and 4).
+-- The input that a reference names (R36 and R37 of docs/DECISIONS.md).
 --   nameOf   the name of a reference       inputOf   the input that it names, 64 where it names none
 use Prim.Native.Nat.{ℕ}
 use Prim.Native.Char.{code}

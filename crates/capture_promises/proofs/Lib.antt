@@ -4,6 +4,6 @@ pub mod Marks
 pub mod Dumps
 pub mod Openings
 pub mod Again
-pub mod Wired
 pub mod Promises
+pub mod Wired
 pub mod Examples

@@ -1,12 +1,16 @@
 -- The promises of specs/Promises.
-use Prim.Native.Nat.{ℕ, _≤_}
+use Prim.Native.Nat.{ℕ, zero, suc, _+_, _<_, _≤_}
 use mathlib.Core.Path.{_≡_, refl, sym, ap, ap₂, _∙_}
-use mathlib.Core.Bool.{Bool, false, cond}
+use mathlib.Core.Bool.{Bool, true, false, cond, _||_}
 use mathlib.Core.List.{List, [], _∷_, _++_}
 use native.Mathlib.Omega.{arith}
 use lib.ListN.{length}
+use Rattle.bits.specs.Bits.{bit, some}
+use Rattle.bits.proofs.Some.{some-of}
 use Rattle.device.specs.declared.Device.{Device}
 use Rattle.device.specs.declared.Stepped.{Stepped}
+use Rattle.device.specs.Step.{stepOf}
+use Rattle.steps.specs.declared.Step.the-variants.{Input}
 use Rattle.capture_tokens.specs.Tokens.{Token, words, placed}
 use Rattle.capture_ids.specs.Ids.{Variable, headerOf, lookOf}
 use Rattle.capture_ids.proofs.Bools.{never}
@@ -17,7 +21,7 @@ use Rattle.capture_commands.specs.declared.Outcome.the-variants.{Accepted, BadT
 use Rattle.capture_commands.specs.Commands.{outcomeNumber, judged, stateStart, stateFrom, eventsFrom, accepted}
 use Rattle.capture_times.specs.declared.Times.{Times}
 use Rattle.capture_dump.specs.Dump.{opening, endText}
-use Rattle.capture_run.specs.Run.{beginOf, linesOf, actedOf, lastOf, dumpFrom}
+use Rattle.capture_run.specs.Run.{stepOne, drivenFrom, beginOf, linesOf, actedOf, lastOf, dumpFrom}
 use Rattle.capture_times.specs.Times.{timesStart}
 use Rattle.capture.specs.Replay.{says, eventsOf, textOutcome, dumpOf, deviceOf, outcomeOf, answerOf, replayOf, bufferOf}
 use Rattle.capture_promises.specs.Promises.{RefusedReplay, changes, QuietReplay, Wiring, nowhere, inputs0to3, shownFrom, wiredOf, DumpAccepted, DumpLines, DumpWired, DumpAgain}
@@ -42,14 +46,35 @@ refused-replay d s out used e =
     let n = numbers (outcomeOf s out used d) e in
     record { from-10 = n .0; to-12 = n .1; device = rw e; length = rw e; buffer = rw e }
 
--- ---- captures without changes
+-- ---- captures in which no input changes
+
+neither : (a b : Bool) → (a || b) ≡ false → (a ≡ false) × (b ≡ false)
+neither true b e = absurd (never (sym e))
+neither false b e = (refl, e)
+
+none-of : (k : ℕ) (f : ℕ → Bool) → some k f ≡ false → (i : ℕ) → i < k → f i ≡ false
+none-of k f e i h = by (f i) refl
+  where
+    by : (t : Bool) → f i ≡ t → t ≡ false
+    by true x = absurd (never (sym e ∙ some-of k f i h x))
+    by false x = refl
+
+-- No input is driven.
+driven-none : (n i : ℕ) (f : ℕ → Bool) (level : Bool) (now : Stepped) → i + n ≤ 64 → ((j : ℕ) → j < 64 → f j ≡ false) → drivenFrom i n f level now ≡ now
+unfolding drivenFrom stepOne
+driven-none zero i f level now h z = refl
+driven-none (suc n) i f level now h z =
+    ap (λ (t : Bool). drivenFrom (suc i) n f level (cond t (stepOf (now .device) (Input i level)) now)) (z i (omega arith))
+    ∙ driven-none n (suc i) f level now (omega arith) z
 
 quiet : (es : List Event) (now : Stepped) → changes es ≡ false → lastOf es now ≡ now
 unfolding changes lastOf actedOf
 quiet [] now e = refl
 quiet (Nothing ∷ es) now e = quiet es now e
 quiet (Mark n ∷ es) now e = quiet es now e
-quiet (Change inputs level ∷ es) now e = absurd (never (sym e))
+quiet (Change inputs level ∷ es) now e =
+    let n = neither (some 64 (bit inputs)) (changes es) e in
+    ap (lastOf es) (driven-none 64 0 (bit inputs) level now (omega arith) (none-of 64 (bit inputs) (n .0))) ∙ quiet es now (n .1)
 
 pub quiet-replay : QuietReplay
 unfolding deviceOf

@@ -1,4 +1,4 @@
--- The wired device of the examples: its lines follow inputs 2 and 3, whatever a capture calls for.
+-- The wired devices of the examples: their bridge lines follow inputs 2 and 3, whatever a capture calls for.
 use Prim.Native.Nat.{ℕ, zero, suc, _+_, _<_, _≤_}
 use mathlib.Core.Path.{_≡_, refl, sym, ap, ap₂, _∙_}
 use mathlib.Core.Bool.{Bool, true, false, cond, not, _&&_, _||_, and-true}
@@ -9,7 +9,7 @@ use native.Mathlib.Omega.{arith}
 use borrow.Author.Tests.{eq-eqb, ne-eqb, le-ltb}
 use lib.Dec.{eqb}
 use lib.ListN.{getD, replicate}
-use Rattle.bits.specs.Bits.{bit, put, some}
+use Rattle.bits.specs.Bits.{bit, digit, put, some}
 use Rattle.bits.proofs.Below.{agree-below}
 use Rattle.bits.proofs.Some.{some-cong}
 use Rattle.bits.proofs.Taut.{taut}
@@ -17,9 +17,9 @@ use Rattle.bits.proofs.Words.{bit-word, bit-zero}
 use Rattle.lanes.proofs.Rest.{own}
 use Rattle.admission.specs.Refusals.{inputRefusals}
 use Rattle.cores.specs.Core as cores
-use Rattle.sources.specs.declared.Bridge.{Bridge}
-use Rattle.sources.specs.Sources as sources
-use Rattle.sources.specs.Changes as changes
+use Rattle.bridge.specs.declared.Bridge.{Bridge}
+use Rattle.bridge.specs.Sources as sources
+use Rattle.bridge.specs.Changes as changes
 use Rattle.tree.specs.Tree as tree
 use Rattle.answers.specs.declared.Outcome.the-variants.{Value}
 use Rattle.device.specs.declared.Stepped.{Stepped}
@@ -30,9 +30,10 @@ use Rattle.steps.specs.declared.Step.the-variants.{Input}
 use Rattle.capture_commands.specs.declared.Event.{Event}
 use Rattle.capture_commands.specs.declared.Event.the-variants.{Nothing, Mark, Change}
 use Rattle.capture_run.specs.Run.{stepOne, drivenFrom, beginOf, actedOf, linesOf, lastOf}
-use Rattle.capture_promises.specs.Examples.{wiredDevice, DeviceFollows}
+use Rattle.capture_promises.specs.Examples.{wiredDevice, DeviceFollows, DumpAgainThere}
 use Rattle.capture_promises.specs.Promises.{levelOf, lines}
 use Rattle.capture_promises.proofs.Again.{Ipi, driven-ipi, ap-lines}
+use Rattle.capture_promises.proofs.Promises.{dump-again}
 
 -- ---- the bridge
 
@@ -42,7 +43,7 @@ masks = 0xfffffffffffffff3
 abbrev routes : List ℕ
 routes = 0 ∷ 0 ∷ 1 ∷ 2 ∷ replicate 60 0
 
--- The bridge of the wired device at some input levels.
+-- The bridge of a wired device at some input levels.
 record Level (b : Bridge) (w : ℕ) : Type 0 where
   mask : b .mask ≡ masks
   msi : b .msi ≡ 0
@@ -82,7 +83,7 @@ record At (now : Stepped) (w : ℕ) : Type 0 where
   shown1 : now .answer .bridge1 ≡ tree.bridgeLine (now .device .tree) 1
 
 stepped : (i : ℕ) (level : Bool) (now : Stepped) (w : ℕ) → i < 64 → At now w → At (stepOf (now .device) (Input i level)) (put 64 w i level)
-unfolding stepOf answeredOf decideOf inputPlan inputRefusals nextOf tree.actedOf tree.settledOf tree.movedOf tree.changedOf changes.inputOf changes.settledOf changes.turnedOf changes.latchedOf changes.levelledOf
+unfolding stepOf answeredOf decideOf inputPlan inputRefusals nextOf tree.actedOf tree.settledOf tree.unsettledOf tree.movedOf changes.inputOf changes.settledOf changes.turnedOf changes.latchedOf changes.levelledOf
 stepped i level now w h k =
     rw (le-ltb 63 i (omega arith)) (record {
       gate = k .gate;
@@ -173,15 +174,27 @@ module _ {a b : Bool} where
       follow es (drivenFrom 0 64 (bit inputs) level now) (r .levels) (driven-ipi 64 0 (bit inputs) level now i) (r .at)
       ∙ ap₂ (λ (x y : Bool). lines a b (levelOf 2 x es) (levelOf 3 y es)) (r .hit 2 (omega arith) (omega arith)) (r .hit 3 (omega arith) (omega arith))
 
+-- ---- the devices
+
+ipi-line : (a : Bool) → cores.lineOf (record { status = digit a; enable = 1; mail = replicate 4 0 }) ≡ a
+unfolding cores.lineOf some bit
+ipi-line true = refl
+ipi-line false = refl
+
 pub device-follows : DeviceFollows
-unfolding wiredDevice answeredOf cores.lineOf some bit
-device-follows es =
-    let first = answeredOf wiredDevice (Value 0) in
+unfolding wiredDevice answeredOf bit
+device-follows a b es =
+    let first = answeredOf (wiredDevice a b) (Value 0) in
     let r = driven (bit 0xffffffffffffffff) false 64 0 first 0 (omega arith) (record {
       gate = refl;
       bridge = record { mask = refl; msi = refl; edge = refl; soft = refl; auto = refl; route = refl; level = refl };
       shown0 = refl;
       shown1 = refl;
     }) in
-    follow es (beginOf wiredDevice) (r .levels) (driven-ipi 64 0 (bit 0xffffffffffffffff) false first (record { shown0 = refl; shown1 = refl; core0 = refl; core1 = refl })) (r .at)
-    ∙ ap₂ (λ (x y : Bool). lines false false (levelOf 2 x es) (levelOf 3 y es)) (r .hit 2 (omega arith) (omega arith)) (r .hit 3 (omega arith) (omega arith))
+    follow es (beginOf (wiredDevice a b)) (r .levels) (driven-ipi 64 0 (bit 0xffffffffffffffff) false first (record { shown0 = ipi-line a; shown1 = ipi-line b; core0 = ipi-line a; core1 = ipi-line b })) (r .at)
+    ∙ ap₂ (λ (x y : Bool). lines a b (levelOf 2 x es) (levelOf 3 y es)) (r .hit 2 (omega arith) (omega arith)) (r .hit 3 (omega arith) (omega arith))
+
+pub dump-again-there : DumpAgainThere
+dump-again-there d s =
+    let l = linesOf (beginOf d) in
+    dump-again d (wiredDevice (l .ipi0) (l .ipi1)) s (device-follows (l .ipi0) (l .ipi1))

@@ -1,17 +1,19 @@
 -- Small captures and what becomes of them, as one table: the text; the refusal's number (0: accepted) and its place; the dump.
 --   device   every source reaches output 0     examples, AsPrinted   the table and the claim     rooms, AsWritten   the same of buffers
---   wiredDevice, DeviceFollows   a device whose lines follow inputs 2 and 3
+--   wiredDevice, DeviceFollows   devices whose bridge lines follow inputs 2 and 3     DumpAgainThere   on one of them each dump is dumped again
 use Prim.Native.Nat.{ℕ}
 use Prim.Native.Char.{code}
 use mathlib.Core.Path.{_≡_}
-use mathlib.Core.Bool.{true, false, cond}
+use mathlib.Core.Bool.{Bool, true, false, cond}
 use mathlib.Core.List.{List, [], _∷_, _++_, map}
 use lib.ListN.{length, replicate}
+use Rattle.bits.specs.Bits.{digit}
 use Rattle.text.specs.Ascii.{ascii}
 use Rattle.device.specs.declared.Device.{Device}
 use Rattle.capture_commands.specs.Commands.{outcomeNumber, accepted}
 use Rattle.capture_dump.specs.Dump.{opening}
-use Rattle.capture_promises.specs.Promises.{Follows}
+use Rattle.capture_run.specs.Run.{beginOf, linesOf}
+use Rattle.capture_promises.specs.Promises.{wiredOf, Follows}
 use Rattle.capture.specs.Replay.{textOutcome, textPlace, dumpOf, replayOf, bufferOf}
 
 -- No source is masked, each goes to output 0 in level mode but source 3, which is in edge mode, and the gate is open.
@@ -114,13 +116,13 @@ rooms =
 abbrev pub AsWritten : Type 0
 AsWritten = map filled rooms ≡ rooms
 
--- ---- a device that is wired so
+-- ---- devices that are wired so
 
--- Sources 2 and 3 alone are unmasked; 2 goes to output 0 and 3 to output 1.
-unfoldable pub wiredDevice : Device
-wiredDevice = record {
-  core0 = record { status = 0; enable = 0; mail = replicate 4 0 };
-  core1 = record { status = 0; enable = 0; mail = replicate 4 0 };
+-- Sources 2 and 3 alone are unmasked; 2 goes to output 0 and 3 to output 1. Enable lets bit 0 of Status through, which gives each core's IPI line.
+unfoldable pub wiredDevice : Bool → Bool → Device
+wiredDevice ipi0 ipi1 = record {
+  core0 = record { status = digit ipi0; enable = 1; mail = replicate 4 0 };
+  core1 = record { status = digit ipi1; enable = 1; mail = replicate 4 0 };
   tree = record {
     bridge = record { mask = 0xfffffffffffffff3; msi = 0; edge = 0; latch = 0; soft = 0; level = 0; auto = 0; turn = 0; routes = 0 ∷ 0 ∷ 1 ∷ 2 ∷ replicate 60 0 };
     gate = true;
@@ -129,6 +131,10 @@ wiredDevice = record {
   «second_open» = false;
 }
 
--- Its lines br0 and br1 follow inputs 2 and 3, whatever a capture calls for: there are devices of which DumpAgain speaks.
+-- Whatever a capture calls for, their lines br0 and br1 follow inputs 2 and 3, and the IPI lines stand as chosen.
 abbrev pub DeviceFollows : Type 0
-DeviceFollows = Follows wiredDevice false false
+DeviceFollows = (ipi0 ipi1 : Bool) → Follows (wiredDevice ipi0 ipi1) ipi0 ipi1
+
+-- So DumpAgain speaks of every dump: the device whose IPI lines stand as the dump's.
+abbrev pub DumpAgainThere : Type 0
+DumpAgainThere = (d : Device) (s : List ℕ) → dumpOf (wiredOf s d) (wiredDevice (linesOf (beginOf d) .ipi0) (linesOf (beginOf d) .ipi1)) ≡ dumpOf s d

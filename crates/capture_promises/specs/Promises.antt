@@ -1,14 +1,14 @@
 -- What holds of every replay, stated; the proofs are in proofs/Promises.
 --   RefusedReplay   a refused replay has its number and leaves everything
---   QuietReplay     a capture without changes moves what taking the 64 inputs to 0 moves, and nothing else
+--   QuietReplay     a capture in which no input changes moves what taking the 64 inputs to 0 moves, and nothing else
 --   DumpAccepted    a dump is itself a capture that is accepted
 --   DumpLines       read back, it calls for the lines' own marks and values; DumpWired, where its wires are inputs
 --   DumpAgain       there, on a device whose lines follow those inputs, it is dumped again as it is
 use Prim.Native.Nat.{ℕ, _≤_}
 use mathlib.Core.Path.{_≡_}
-use mathlib.Core.Bool.{Bool, true, false, cond}
+use mathlib.Core.Bool.{Bool, false, cond, _||_}
 use mathlib.Core.List.{List, [], _∷_, _++_}
-use Rattle.bits.specs.Bits.{bit}
+use Rattle.bits.specs.Bits.{bit, some}
 use Rattle.text.specs.Ascii.{ascii}
 use Rattle.device.specs.declared.Device.{Device}
 use Rattle.device.specs.declared.Stepped.{Stepped}
@@ -37,13 +37,14 @@ pub record Unmoved (d : Device) (s out : List ℕ) (used : ℕ) : Type 0 where
 abbrev pub RefusedReplay : Type 0
 RefusedReplay = (d : Device) (s out : List ℕ) (used : ℕ) → accepted (replayOf d s out used .outcome) ≡ false → Unmoved d s out used
 
--- ---- captures without changes
+-- ---- captures in which no input changes
 
+-- Some change is of an input; those of other wires name none.
 unfoldable pub changes : List Event → Bool
 changes [] = false
 changes (Nothing ∷ es) = changes es
 changes (Mark n ∷ es) = changes es
-changes (Change inputs level ∷ es) = true
+changes (Change inputs level ∷ es) = some 64 (bit inputs) || changes es
 
 abbrev pub QuietReplay : Type 0
 QuietReplay = (d : Device) (s : List ℕ) → changes (eventsOf s) ≡ false → deviceOf s d ≡ beginOf d .device

@@ -1,1 +1,1 @@
-// What holds of every device and every step, and the starred examples of 01: definitions (specs/) and theorems (proofs/) alone, no code.
+// What holds of every replay, and small captures with their dumps: definitions (specs/) and theorems (proofs/) alone, no code.

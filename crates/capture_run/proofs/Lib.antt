@@ -1,1 +1,4 @@
 pub mod Inputs
+pub mod Sources
+pub mod Steps
+pub mod Orders

@@ -1,4 +1,4 @@
--- A capture run on a device (01, "Capture text"; readings Q-7, 7): each change is an input step, and each time that ends may be dumped.
+-- A capture run on a device (01, "Capture text"; R40 of docs/DECISIONS.md): each change is an input step, and each time that ends may be dumped.
 --   drivenOf   inputs taken to a level, lowest number first     beginOf    all inputs taken to 0
 --   actedOf    the device after what a token calls for          linesOf    the four base lines
 --   lastOf     the device after all of it                       dumpFrom   the dump from a device and a time on
@@ -30,7 +30,7 @@ unfoldable pub drivenFrom : ℕ → ℕ → (ℕ → Bool) → Bool → Stepped 
 drivenFrom i zero chosen level now = now
 drivenFrom i (suc n) chosen level now = drivenFrom (suc i) n chosen level (stepOne (chosen i) i level now)
 
--- The inputs whose bit is set.
+-- The inputs whose bit is set. Any other order of them ends alike (Order.antt).
 abbrev pub drivenOf : ℕ → Bool → Stepped → Stepped
 drivenOf inputs level now = drivenFrom 0 64 (bit inputs) level now
 

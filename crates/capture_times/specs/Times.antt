@@ -1,4 +1,4 @@
--- The times of a capture (01, "Capture text"; readings Q-7, 6 and 7).
+-- The times of a capture (01, "Capture text"; R32, R39 and R40 of docs/DECISIONS.md).
 --   timesStart   before the first mark        endsOf   whether a time ends        timesOf   the time under way after what a token calls for
 use Prim.Native.Nat.{ℕ}
 use mathlib.Core.Bool.{Bool, true, false, cond, _&&_}

@@ -1,16 +1,15 @@
--- The tokens of a capture (readings Q-7, 1).
+-- The tokens of a capture (R34 of docs/DECISIONS.md).
 --   blank     white space                            tokensFrom   the tokens of a text with their places, in order
---   past      the place after a run of bytes         tokenOf      the next token's place
+--   tokenOf   the next token's place                 isEnd        the token that ends a section
 --   wordsOf   the tokens alone, for lists of words   indexOf      where a text stands in a list of words
---   isEnd     the token that ends a section
 use Prim.Native.Nat.{ℕ, suc, _+_}
-use mathlib.Core.Bool.{Bool, true, false, cond, _||_, Bool·beq}
+use mathlib.Core.Bool.{Bool, false, cond, _||_}
 use mathlib.Core.List.{List, [], _∷_, map}
 use lib.Dec.{eqb, ltb}
 use lib.ListN.{length, drop}
 use Rattle.text.specs.Ascii.{ascii}
-use Rattle.text.specs.Tokens.{sameOf}
-use Rattle.capture_tokens.specs.declared.Span.{Span}
+use Rattle.text.specs.declared.Span.{Span}
+use Rattle.text.specs.Tokens.{tokenBy, sameOf}
 
 -- A byte is one of a text's.
 abbrev pub among : List ℕ → ℕ → Bool
@@ -51,20 +50,9 @@ placed at ((c ∷ w) ∷ ws) = token at (c ∷ w) ∷ placed (suc (at + length (
 unfoldable pub tokensFrom : List ℕ → ℕ → List Token
 tokensFrom s at = placed at (words (drop at s))
 
--- ---- the next token, by its place
-
--- How many bytes a text begins with that are all white space, or all not.
-unfoldable pub run : Bool → List ℕ → ℕ
-run k [] = 0
-run k (c ∷ s) = cond (Bool·beq k (blank c)) (suc (run k s)) 0
-
--- The place past such a run from a place on.
-unfoldable pub past : Bool → List ℕ → ℕ → ℕ
-past k s at = at + run k (drop at s)
-
 -- The next token at or after a place; empty where there is none.
 unfoldable pub tokenOf : List ℕ → ℕ → Span
-tokenOf s from = record { start = past true s from; end = past false s (past true s from) }
+tokenOf s from = tokenBy blank blank s from
 
 -- ---- lists of words
 

@@ -11,28 +11,17 @@ use Rattle.bits.proofs.Operations.{word-low}
 use Rattle.order.specs.Cells as order
 use Rattle.order.proofs.Clash as order-clash
 use Rattle.order.proofs.Places.{width-at-most}
-use Rattle.ipi.specs.declared.Cell as ipi
-use Rattle.ipi.specs.declared.Cell.the-variants.{Status, Enable, MailBox}
 use Rattle.steps.specs.declared.Step.{Step}
 use Rattle.device.specs.declared.Device.{Device}
 use Rattle.reorder.specs.declared.Cell.{Cell}
-use Rattle.reorder.specs.declared.Cell.the-variants.{Core0, Core1}
 use Rattle.reorder.specs.declared.Given.{Given}
 use Rattle.reorder.specs.declared.Given.the-variants.{NotListed, Nothing, Bits}
-use Rattle.reorder.specs.Cells.{cells, messagePlace, place, same, width}
+use Rattle.reorder.specs.Cells.{rowOf, same, width}
 use Rattle.reorder.specs.Writes.{effectOf, givenIn}
 use Rattle.reorder.specs.Rule.{Ordered}
-use Rattle.reorder.proofs.Cells.{device-names}
+use Rattle.reorder.proofs.Cells.{device-names, names, placed}
 use Rattle.clashes.specs.declared.Clash.the-variants.{Free, On}
-use Rattle.clashes.specs.Private.{spotOf}
 use Rattle.clashes.specs.Clash.{ReorderRule, clashBits, clashIn, clashOf}
-
--- the cells of both cores have the same widths
-pub core-spot : (c : ipi.Cell)
-    → record { row = messagePlace 3 c .row; index = messagePlace 3 c .index; width = width (Core0 c) } ≡ spotOf (Core1 c)
-core-spot Status = refl
-core-spot Enable = refl
-core-spot (MailBox i) = refl
 
 -- ---- the bits of a clash
 
@@ -48,7 +37,7 @@ module _ (a b : Cell) (m n x y : ℕ) where
       rw s
       (sym
       (word-cong 64 (λ i h. rw (bit-word 64 _ i h))
-      ∙ word-low (width a) 64 (order.clashAt e f) (width-at-most 64 cells refl (place a))))
+      ∙ word-low (width a) 64 (order.clashAt e f) (width-at-most rowOf names placed 64 refl a)))
 
   pub no-clash : same a b ≡ false → clashBits (Bits a m x) (Bits b n y) ≡ 0
   unfolding clashBits order.clash

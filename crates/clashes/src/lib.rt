@@ -1,12 +1,11 @@
 // Where two writes of the order rule clash.
 ghost use mathlib.Core.Path.{_≡_};
 ghost use mathlib.Core.Bool.{cond, xor, _&&_};
-ghost use Prim.Native.Nat.{_≤_};
 ghost use lib.Dec.{eqb, ltb};
 ghost use Rattle.bits.specs.Bits.{bit, word};
-ghost use Rattle.reorder.specs.Cells.{messagePlace, nodePlace, sourcePlace, width};
+ghost use Rattle.reorder.specs.Cells.{bridgeRow, coreRow, nodeRow};
 ghost use Rattle.clashes.specs.Clash.{clashBits, clashIn, clashOf};
-ghost use Rattle.clashes.specs.Private.{spotOf};
+ghost use Rattle.clashes.specs.Private.{spotIn, spotOf};
 use reorder::Cell;
 use reorder::Given;
 use steps::Step;
@@ -16,60 +15,64 @@ pub enum Clash {
     On { cell: Cell, bits: u64 },
 }
 
-// ---- a cell's place and its width, a line for each
+// ---- where a cell stands and its width, a line for each as in crates/reorder/specs/Cells.antt
 
 struct Spot {
-    row: u64,
+    block: u64,
+    number: u64,
     index: u64,
     width: u64,
 }
 
-fn at(row: u64, index: u64, width: u64) -> Spot
-    ensures { λ r. ⌜ r ≡ record { row = row; index = index; width = width } ⌝ }
+fn one(block: u64, number: u64, bits: u64) -> Spot
+    ensures { λ r. ⌜ r ≡ record { block = block; number = number; index = 0; width = bits } ⌝ }
 {
     Spot {
-        row: row,
+        block: block,
+        number: number,
+        index: 0,
+        width: bits,
+    }
+}
+
+fn one_of(block: u64, number: u64, index: u64, count: u64, bits: u64) -> Spot
+    ensures { λ r. ⌜ r ≡ record { block = block; number = number; index = index; width = cond (ltb index count) bits 0 } ⌝ }
+{
+    let width = if index < count { bits } else { 0 };
+    Spot {
+        block: block,
+        number: number,
         index: index,
         width: width,
     }
 }
 
-// The width of word i of an array of n.
-fn bounded(i: u64, n: u64, width: u64) -> u64
-    ensures { λ r. ⌜ r ≡ cond (ltb i n) width 0 ⌝ }
-{
-    if i < n { width } else { 0 }
-}
-
-fn message_spot(first: u64, cell: ipi::Cell) -> Spot
-    requires { ⌜ first ≤ 9 ⌝ }
-    ensures { λ r. ⌜ r ≡ record { row = messagePlace first cell .row; index = messagePlace first cell .index; width = width (Cell.Core0 cell) } ⌝ }
+fn core_spot(block: u64, cell: ipi_registers::Cell) -> Spot
+    ensures { λ r. ⌜ r ≡ spotIn block (coreRow cell) ⌝ }
 {
     match cell {
-        ipi::Cell::Status => at(first, 0, 32),
-        ipi::Cell::Enable => at(first + 1, 0, 32),
-        ipi::Cell::MailBox(i) => at(first + 2, i, bounded(i, 4, 64)),
+        ipi_registers::Cell::Status => one(block, 0, 32),
+        ipi_registers::Cell::Enable => one(block, 1, 32),
+        ipi_registers::Cell::MailBox(i) => one_of(block, 2, i, 4, 64),
     }
 }
 
-fn source_spot(first: u64, cell: bridge::Cell) -> Spot
-    requires { ⌜ first ≤ 9 ⌝ }
-    ensures { λ r. ⌜ r ≡ record { row = sourcePlace first cell .row; index = sourcePlace first cell .index; width = width (Cell.Bridge cell) } ⌝ }
+fn bridge_spot(block: u64, cell: bridge_registers::Cell) -> Spot
+    ensures { λ r. ⌜ r ≡ spotIn block (bridgeRow cell) ⌝ }
 {
     match cell {
-        bridge::Cell::Mask => at(first, 0, 64),
-        bridge::Cell::Msi => at(first + 1, 0, 64),
-        bridge::Cell::Route(i) => at(first + 2, i, bounded(i, 64, 2)),
+        bridge_registers::Cell::Mask => one(block, 0, 64),
+        bridge_registers::Cell::Msi => one(block, 1, 64),
+        bridge_registers::Cell::Route(i) => one_of(block, 2, i, 64, 2),
     }
 }
 
-fn node_spot(first: u64, cell: node::Cell) -> Spot
-    requires { ⌜ first ≤ 10 ⌝ }
-    ensures { λ r. ⌜ r ≡ record { row = nodePlace first cell .row; index = nodePlace first cell .index; width = width (Cell.Node cell) } ⌝ }
+fn node_spot(block: u64, cell: node_registers::Cell) -> Spot
+    ensures { λ r. ⌜ r ≡ spotIn block (nodeRow cell) ⌝ }
 {
     match cell {
-        node::Cell::Inten => at(first, 0, 32),
-        node::Cell::Entry(i) => at(first + 1, i, bounded(i, 32, 8)),
+        node_registers::Cell::Inten => one(block, 0, 32),
+        node_registers::Cell::Entry(i) => one_of(block, 1, i, 32, 8),
     }
 }
 
@@ -77,21 +80,24 @@ fn spot_of(cell: Cell) -> Spot
     ensures { λ r. ⌜ r ≡ spotOf cell ⌝ }
 {
     match cell {
-        Cell::Core0(c) => message_spot(0, c),
-        Cell::Core1(c) => message_spot(3, c),
-        Cell::Bridge(c) => source_spot(6, c),
-        Cell::Gate => at(9, 0, 1),
-        Cell::Node(c) => node_spot(10, c),
+        Cell::Core0(c) => core_spot(0, c),
+        Cell::Core1(c) => core_spot(1, c),
+        Cell::Bridge(c) => bridge_spot(2, c),
+        Cell::Gate => one(3, 0, 1),
+        Cell::Node(c) => node_spot(4, c),
     }
 }
 
-fn equal(k: u64, l: u64, i: u64, j: u64) -> bool
-    ensures { λ r. ⌜ r ≡ (eqb k l && eqb i j) ⌝ }
+fn same_spot(s: Spot, t: Spot) -> bool
+    ensures { λ r. ⌜ r ≡ ((eqb (s .block) (t .block) && eqb (s .number) (t .number)) && eqb (s .index) (t .index)) ⌝ }
 {
-    if k == l {
-        return i == j;
+    if s.block != t.block {
+        return false;
     }
-    false
+    if s.number != t.number {
+        return false;
+    }
+    s.index == t.index
 }
 
 // ---- the bits in which two writes clash
@@ -120,7 +126,7 @@ fn clash_bits(a: Cell, b: Cell, m: u64, n: u64, x: u64, y: u64) -> u64
 {
     let s = spot_of(a);
     let t = spot_of(b);
-    if equal(s.row, t.row, s.index, t.index) {
+    if same_spot(s, t) {
         return opposite(m, n, x, y, bits_below(s.width));
     }
     0

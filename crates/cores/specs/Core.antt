@@ -6,11 +6,12 @@ use lib.Dec.{eqb}
 use lib.ListN.{getD, set}
 use Rattle.bits.specs.Bits.{bit, merge, some}
 use Rattle.cores.specs.declared.Core.{Core}
-use Rattle.ipi.specs.declared.Register.{Register}
-use Rattle.ipi.specs.declared.Register.the-variants as register
-use Rattle.ipi.specs.declared.Cell.{Cell}
-use Rattle.ipi.specs.declared.Cell.the-variants.{Status, Enable, MailBox}
-use Rattle.ipi.specs.declared.Effect.{Effect}
+use Rattle.cores.specs.Cells.{withEnable, withMail, withStatus}
+use Rattle.ipi_registers.specs.declared.Register.{Register}
+use Rattle.ipi_registers.specs.declared.Register.the-variants as register
+use Rattle.ipi_registers.specs.declared.Cell.{Cell}
+use Rattle.ipi_registers.specs.declared.Cell.the-variants.{Status, Enable, MailBox}
+use Rattle.ipi_registers.specs.declared.Effect.{Effect}
 
 -- a mailbox at width 8, and its low half at width 4
 abbrev pub mailBoxRead : ℕ → ℕ → ℕ
@@ -28,9 +29,9 @@ readOf c register.MailSend width = 0
 
 -- the masked bits of one cell take values
 abbrev pub on : Core → Cell → ℕ → ℕ → Core
-on c Status m b = record { status = merge 32 (c .status) m b; enable = c .enable; mail = c .mail }
-on c Enable m b = record { status = c .status; enable = merge 32 (c .enable) m b; mail = c .mail }
-on c (MailBox i) m b = record { status = c .status; enable = c .enable; mail = set (c .mail) i (merge 64 (getD (c .mail) i 0) m b) }
+on c Status m b = withStatus c (merge 32 (c .status) m b)
+on c Enable m b = withEnable c (merge 32 (c .enable) m b)
+on c (MailBox i) m b = withMail c (set (c .mail) i (merge 64 (getD (c .mail) i 0) m b))
 
 unfoldable pub appliedOf : Core → Effect → Core
 appliedOf c e = on c (e .cell) (e .mask) (e .bits)

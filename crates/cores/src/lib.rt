@@ -3,9 +3,9 @@ ghost use mathlib.Core.Path.{_≡_};
 ghost use mathlib.Core.Bool.{cond};
 ghost use lib.ListN.{getD, set};
 ghost use Rattle.cores.specs.Core.{appliedOf, lineOf, mailBoxRead, readOf};
-use ipi::Cell;
-use ipi::Effect;
-use ipi::Register;
+use ipi_registers::Cell;
+use ipi_registers::Effect;
+use ipi_registers::Register;
 
 pub struct Core {
     pub status: u32,

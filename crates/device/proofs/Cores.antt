@@ -6,8 +6,8 @@ use lib.Dec.{eqb}
 use borrow.Table.Steps.{cases}
 use Rattle.bits.proofs.Cond.{cond-ap}
 use Rattle.cores.specs.declared.Core.{Core}
-use Rattle.ipi.specs.declared.Effect.{Effect}
-use Rattle.ipi.specs.declared.Register.{Register}
+use Rattle.ipi_registers.specs.declared.Effect.{Effect}
+use Rattle.ipi_registers.specs.declared.Register.{Register}
 use Rattle.cores.specs.Core.{appliedOf, readOf}
 use Rattle.device.specs.declared.Device.{Device}
 use Rattle.device.specs.Device.{coreOf, withCore}

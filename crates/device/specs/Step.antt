@@ -1,5 +1,5 @@
--- A step of the device (01, "Kinds of step"): decided, done, settled, answered. What follows from a change is said in one place, `settledOf`
--- of crates/tree, from the tree before the step to the tree after it.
+-- A step of the device (01, "Kinds of step"): decided, done, settled, answered. What follows from a change is said by two definitions of one form:
+-- `settledOf` of crates/bridge, of the bridge's own cells, and `settledOf` of crates/tree, of what the tree's blocks do to each other.
 --   outcomeOf   what the step answers     nextOf   the device after it
 --   stepOf      both, with the lines
 use Rattle.cores.specs.Core as cores

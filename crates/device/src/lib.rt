@@ -27,7 +27,10 @@ pub struct Stepped {
 // the code, and is not looked at in the other cases.
 enum Class {
     Keep,
-    Cores { effect: ipi::Effect, core: u64 },
+    Cores {
+        effect: ipi_registers::Effect,
+        core: u64,
+    },
     Tree(Act),
     Window(bool),
     Reset,
@@ -173,9 +176,8 @@ impl Device {
         let core0 = self.core0;
         let core1 = self.core1;
         let tree = self.tree;
-        let node = tree.node;
         let lines = tree.lines();
-        let pins = node.pins(lines);
+        let pins = tree.pins(lines);
         let ipi0 = core0.line();
         let ipi1 = core1.line();
         Stepped {

@@ -1,8 +1,10 @@
 // Whether two devices agree: in all that can be read, and in every cell.
 use crate::kinds::bridge_read;
 use crate::kinds::bus_read;
-use bridge::Register;
+use bridge_registers::Register;
 use device::Device;
+use numbered::BRIDGE_READ;
+use numbered::step_of;
 use steps::Step;
 use tree::Tree;
 
@@ -16,7 +18,7 @@ fn read_at(k: u64) -> Step {
         return bridge_read(Register::RouteEntry(k));
     }
     if k < 74 {
-        return bridge_read(bridge::numbered(k - 64, 0));
+        return step_of(BRIDGE_READ, k - 64, 0, 0, 0).known_or(Step::Reset);
     }
     if k < 92 {
         return bus_read(address_at(k), width_at(k));

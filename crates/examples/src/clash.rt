@@ -10,11 +10,11 @@ pub(crate) const STATUS: u64 = 1;
 
 const OTHER: u64 = 2;
 
-fn message_number(cell: ipi::Cell) -> u64 {
+fn message_number(cell: ipi_registers::Cell) -> u64 {
     match cell {
-        ipi::Cell::Status => STATUS,
-        ipi::Cell::Enable => OTHER,
-        ipi::Cell::MailBox(_) => OTHER,
+        ipi_registers::Cell::Status => STATUS,
+        ipi_registers::Cell::Enable => OTHER,
+        ipi_registers::Cell::MailBox(_) => OTHER,
     }
 }
 

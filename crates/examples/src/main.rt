@@ -9,8 +9,8 @@ mod names;
 mod run;
 mod show;
 
-use bridge::Chip;
-use bridge::Register;
+use bridge_registers::Chip;
+use bridge_registers::Register;
 use kinds::bridge_read;
 use kinds::bridge_write;
 use kinds::bus_read;

@@ -9,7 +9,7 @@ use crate::kinds::bus_write;
 use crate::names::show_name;
 use crate::show;
 use answers::Answer;
-use bridge::Register;
+use bridge_registers::Register;
 use device::Device;
 use steps::Step;
 

@@ -1,6 +1,7 @@
-// Bytes: byte masks, one bit of many bytes, the bits that some of many bytes have.
+// Bytes: byte masks, a byte of many read and written, one bit of many bytes, the bits that some of many bytes have.
 ghost use mathlib.Core.Path.{_≡_};
 ghost use mathlib.Core.Bool.{false};
+ghost use lib.ListN.{getD, set};
 ghost use Rattle.bits.specs.Bits as words;
 ghost use Rattle.lanes.specs.Bytes as bytes;
 
@@ -20,6 +21,26 @@ pub fn written_bytes(mask: u64) -> u64
         written |= byte << (8 * j);
     }
     written
+}
+
+// Byte i; past the last one, 0.
+pub fn byte_at(all: &[u8], i: u64) -> u8
+    ensures { λ r. ⌜ r ≡ getD (now (all .entry)) i 0 ⌝ }
+{
+    if i < all.len() as u64 {
+        all[i as usize]
+    } else {
+        0
+    }
+}
+
+// Byte i becomes v; past the last one nothing does.
+pub fn put_at(all: &mut [u8], i: u64, v: u8)
+    ensures { λ r. ⌜ now (all .exit) ≡ set (now (all .entry)) i v ⌝ }
+{
+    if i < all.len() as u64 {
+        all[i as usize] = v;
+    }
 }
 
 // The number of the lowest bit that is set; 64 where none is.

@@ -1,2 +1,3 @@
-pub mod Table
-pub mod Effect
+pub mod Cells
+pub mod Sources
+pub mod Changes

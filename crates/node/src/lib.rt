@@ -1,115 +1,189 @@
-// Section 8.2: the registers of the node's I/O interrupts by offset, and what a write to each does.
+// Section 8.2: the 32 sources of the node: drive, request, the status of a core, and the lines to the pins of both cores.
 ghost use mathlib.Core.Path.{_≡_};
-ghost use Rattle.node.specs.Table.{entryAt, found, perCoreOf};
-ghost use Rattle.node.specs.Effect.{writtenOf};
-use access::Access;
-use access::Rights;
-use access::Widths;
+ghost use mathlib.Core.Bool.{not, _&&_};
+ghost use Rattle.bits.specs.Bits.{bit, word};
+ghost use Rattle.bits.specs.Latch.{latched};
+ghost use Rattle.node.specs.Sources.{driveWord, pendingAt, pinsOf, readOf, requestWord, statusWord};
+ghost use Rattle.node.specs.Changes.{appliedOf, beforeOf, disabled, levelledOf, movedOf, settledOf};
+use node_registers::Cell;
+use node_registers::Change;
+use node_registers::Effect;
+use node_registers::Register;
 
-// The registers of tables 8-5 and 8-7, in the manual's order: the status of a core and the route of a source by its number.
-pub enum Register {
-    Intisr,
-    Inten,
-    Intenset,
-    Intenclr,
-    Intedge,
-    CoreIntisr(u64),
-    Entry(u64),
+// Bit i of each word and byte i of the routes belong to source i. Sources 0 and 1 have no input level: bits 0 and 1 of it show nowhere.
+pub struct Node {
+    pub enable: u32,
+    pub edge: u32,
+    pub latch: u32,
+    pub level: u32,
+    pub routes: [u8; 32],
 }
 
-pub enum Found {
-    Nothing,
-    At { register: Register, access: Access },
+// What settling needs of the node before a step: the edge choices and the drives.
+pub struct Before {
+    pub edge: u32,
+    pub drive: u32,
 }
 
-// A cell that a plain write reaches.
-pub enum Cell {
-    Inten,
-    Entry(u64),
-}
-
-// The bits of the cell that are in mask take the values in bits.
-pub struct Effect {
-    pub cell: Cell,
-    pub mask: u64,
-    pub bits: u64,
-}
-
-// A change that is not plain: the edge choices, or none.
-pub enum Change {
-    Modes(u64),
-    Nothing,
-}
-
-// What an accepted write does.
-pub enum Written {
-    Plain(Effect),
-    Changed(Change),
-}
-
-fn found_as(register: Register, rights: Rights, widths: Widths) -> Found
-    ensures { λ r. ⌜ r ≡ found register rights widths ⌝ }
+fn wide(x: u32) -> u64
+    ensures { λ r. ⌜ r ≡ x ⌝ }
 {
-    Found::At {
-        register: register,
-        access: Access {
-            rights: rights,
-            widths: widths,
-        },
+    x as u64
+}
+
+fn both(a: u32, b: u32) -> u32
+    ensures { λ r. ⌜ r ≡ word 32 (λ i. bit a i && bit b i) ⌝ }
+{
+    a & b
+}
+
+// The enables that are given 0.
+fn given_0(mask: u64, bits: u64) -> u64
+    ensures { λ r. ⌜ r ≡ word 64 (λ i. bit mask i && not (bit bits i)) ⌝ }
+{
+    mask & !bits
+}
+
+// Intenclr: the latch goes with the enable.
+fn latch_disabled(latch: u32, mask: u64, bits: u64) -> u32
+    ensures { λ r. ⌜ r ≡ disabled mask bits latch ⌝ }
+{
+    bits::select32((given_0(mask, bits) % 0x1_0000_0000) as u32, 0, latch)
+}
+
+// The edge-latch rule at 32 sources.
+fn latched32(old: u32, new: u32, before: u32, after: u32, latch: u32) -> u32
+    ensures { λ r. ⌜ r ≡ latched 32 old new before after latch ⌝ }
+{
+    let wide = bits::latched(
+        old as u64,
+        new as u64,
+        before as u64,
+        after as u64,
+        latch as u64,
+    );
+    (wide % 0x1_0000_0000) as u32
+}
+
+impl Node {
+    // Sources 0 and 1 are driven by the bridge's two lines, the others by their inputs.
+    fn drive(self, lines: u8) -> u32
+        ensures { λ r. ⌜ r ≡ driveWord self lines ⌝ }
+    {
+        bits::select32(3, lines as u32, self.level)
     }
-}
 
-// The register that starts at an offset.
-pub fn entry_at(offset: u64) -> Found
-    ensures { λ r. ⌜ r ≡ entryAt offset ⌝ }
-{
-    match offset {
-        0x1400..=0x141f => found_as(Register::Entry(offset - 0x1400), Rights::Both, Widths::One),
-        0x1420 => found_as(Register::Intisr, Rights::Read, Widths::Four),
-        0x1424 => found_as(Register::Inten, Rights::Read, Widths::Four),
-        0x1428 => found_as(Register::Intenset, Rights::Both, Widths::Four),
-        0x142c => found_as(Register::Intenclr, Rights::Both, Widths::Four),
-        0x1434 => found_as(Register::Intedge, Rights::Both, Widths::Four),
-        0x1440 => found_as(Register::CoreIntisr(0), Rights::Read, Widths::Four),
-        0x1448 => found_as(Register::CoreIntisr(1), Rights::Read, Widths::Four),
-        _ => Found::Nothing,
+    // Intisr: the latch in edge mode, the drive in level mode.
+    fn requests(self, lines: u8) -> u32
+        ensures { λ r. ⌜ r ≡ requestWord self lines ⌝ }
+    {
+        bits::select32(self.edge, self.latch, self.drive(lines))
     }
-}
 
-// The private window has the status of the core itself too, at 0x1010.
-pub fn per_core(core: u64) -> Found
-    ensures { λ r. ⌜ r ≡ perCoreOf core ⌝ }
-{
-    found_as(Register::CoreIntisr(core), Rights::Read, Widths::Four)
-}
+    // The requests that are enabled.
+    fn pending(self, lines: u8) -> u32
+        ensures { λ r. ⌜ r ≡ word 32 (pendingAt self lines) ⌝ }
+    {
+        both(self.requests(lines), self.enable)
+    }
 
-fn plain(cell: Cell, mask: u64, bits: u64) -> Written
-    ensures { λ r. ⌜ r ≡ Written.Plain (record { cell = cell; mask = mask; bits = bits }) ⌝ }
-{
-    Written::Plain(Effect {
-        cell: cell,
-        mask: mask,
-        bits: bits,
-    })
-}
+    // COREc_INTISR.
+    fn status(self, lines: u8, core: u64) -> u32
+        ensures { λ r. ⌜ r ≡ statusWord self lines core ⌝ }
+    {
+        let routes = self.routes;
+        routes::routed(routes, self.pending(lines), core)
+    }
 
-fn changed(change: Change) -> Written
-    ensures { λ r. ⌜ r ≡ Written.Changed change ⌝ }
-{
-    Written::Changed(change)
-}
+    // The lines to the pins: core c and pin p as bit 4 * c + p.
+    pub fn pins(self, lines: u8) -> u8
+        ensures { λ r. ⌜ r ≡ pinsOf self lines ⌝ }
+    {
+        let routes = self.routes;
+        routes::lines(routes, self.pending(lines))
+    }
 
-// What a write to a register does. No write to a status register or to Inten is accepted.
-pub fn write(register: Register, value: u64) -> Written
-    ensures { λ r. ⌜ r ≡ writtenOf register value ⌝ }
-{
-    match register {
-        Register::Intisr => changed(Change::Nothing),
-        Register::Inten => changed(Change::Nothing),
-        Register::Intenset => plain(Cell::Inten, value, value),
-        Register::Intenclr => plain(Cell::Inten, value, 0),
-        Register::Intedge => changed(Change::Modes(value)),
-        Register::CoreIntisr(_) => changed(Change::Nothing),
-        Register::Entry(source) => plain(Cell::Entry(source), 0xf3, value),
+    // What a register reads as.
+    pub fn read(self, lines: u8, register: Register) -> u64
+        ensures { λ r. ⌜ r ≡ readOf self lines register ⌝ }
+    {
+        let routes = self.routes;
+        match register {
+            Register::Intisr => wide(self.requests(lines)),
+            Register::Inten => wide(self.enable),
+            Register::Intenset => wide(self.enable),
+            Register::Intenclr => wide(self.enable),
+            Register::Intedge => wide(self.edge),
+            Register::CoreIntisr(core) => wide(self.status(lines, core)),
+            Register::Entry(source) => routes::read(routes, source),
+        }
+    }
+
+    // The node after an effect of a plain write.
+    pub fn applied(mut self, effect: Effect) -> Node
+        ensures { λ r. ⌜ r ≡ appliedOf self effect ⌝ }
+    {
+        let routes = self.routes;
+        let cell = effect.cell;
+        let mask = effect.mask;
+        let bits = effect.bits;
+        match cell {
+            Cell::Inten => {
+                self.enable = bits::merge32(self.enable, mask, bits);
+                self.latch = latch_disabled(self.latch, mask, bits);
+                self
+            }
+            Cell::Entry(i) => {
+                let new = routes::written(routes, i, mask, bits);
+                self.routes = new;
+                self
+            }
+        }
+    }
+
+    // What a change itself moves.
+    pub fn moved(mut self, change: Change) -> Node
+        ensures { λ r. ⌜ r ≡ movedOf self change ⌝ }
+    {
+        match change {
+            Change::Edge { mask, bits } => {
+                self.edge = bits::merge32(self.edge, mask, bits);
+                self
+            }
+            Change::Nothing => self,
+        }
+    }
+
+    // What an input change itself moves.
+    pub fn levelled(mut self, source: u64, level: bool) -> Node
+        ensures { λ r. ⌜ r ≡ levelledOf self source level ⌝ }
+    {
+        self.level = (bits::put(self.level as u64, source, level) % 0x1_0000_0000) as u32;
+        self
+    }
+
+    // What settling needs of the node before a step, where the bridge's lines are `lines`.
+    pub fn before(self, lines: u8) -> Before
+        ensures { λ r. ⌜ r ≡ beforeOf self lines ⌝ }
+    {
+        Before {
+            edge: self.edge,
+            drive: self.drive(lines),
+        }
+    }
+
+    // What follows from a step, where the bridge's lines are `lines` after it: the edge-latch rule, from the choices and drives before it to those
+    // after it.
+    pub fn settled(mut self, before: Before, lines: u8) -> Node
+        ensures { λ r. ⌜ r ≡ settledOf before self lines ⌝ }
+    {
+        self.latch = latched32(
+            before.edge,
+            self.edge,
+            before.drive,
+            self.drive(lines),
+            self.latch,
+        );
+        self
     }
 }

@@ -23,17 +23,17 @@ use Rattle.access.specs.Refusal.{firstOf, refusalNumber}
 use Rattle.admission.specs.Refusals.{bridgeRefusals, inputRefusals, nodeInputRefusals}
 use Rattle.cores.specs.declared.Core.{Core}
 use Rattle.cores.specs.Core as cores
-use Rattle.bridge.specs.declared.Chip.{Chip}
-use Rattle.bridge.specs.declared.Chip.the-variants.{Chip0, Chip1}
-use Rattle.bridge.specs.declared.Written.{Written}
-use Rattle.bridge.specs.declared.Written.the-variants.{Plain, Changed}
-use Rattle.bridge.specs.Registers.{distributed, inServiceAt, rowOf, sized, writtenOf}
-use Rattle.sources.specs.declared.Bridge.{Bridge}
-use Rattle.sources.specs.Sources as sources
-use Rattle.pins.specs.declared.Node.{Node}
-use Rattle.pins.specs.Pins as pins
-use Rattle.pins.specs.Changes as nodes
-use Rattle.pins.proofs.Drive.{drive-level}
+use Rattle.bridge_registers.specs.declared.Chip.{Chip}
+use Rattle.bridge_registers.specs.declared.Chip.the-variants.{Chip0, Chip1}
+use Rattle.bridge_registers.specs.declared.Written.{Written}
+use Rattle.bridge_registers.specs.declared.Written.the-variants.{Plain, Changed}
+use Rattle.bridge_registers.specs.Registers.{distributed, inServiceAt, rowOf, sized, writtenOf}
+use Rattle.bridge.specs.declared.Bridge.{Bridge}
+use Rattle.bridge.specs.Sources as sources
+use Rattle.node.specs.declared.Node.{Node}
+use Rattle.node.specs.Sources as node
+use Rattle.node.specs.Changes as nodes
+use Rattle.node.proofs.Drive.{drive-level}
 use Rattle.tree.specs.declared.Tree.{Tree}
 use Rattle.tree.specs.declared.Write.the-variants as write
 use Rattle.tree.specs.declared.Change.the-variants as change
@@ -151,7 +151,7 @@ unfolding stepOf answeredOf
 bridge-lines d s = let t = stepOf d s .device .tree in (gated t 0, gated t 1)
 
 routed : (t : Tree) (c p : ℕ) → (tree.pinLine t c p ≡ true) ↔ Routed t c p
-unfolding pins.pinAt
+unfolding node.pinAt
 routed t c p = (
   λ e.
       let w = some-at 32 _ e in
@@ -164,7 +164,7 @@ routed t c p = (
 
 -- line 4 * c + p is that of core c and pin p
 pin-bit : (t : Tree) (c p : ℕ) → c < 2 → p < 4 → bit (tree.pinsOf t) (4 * c + p) ≡ tree.pinLine t c p
-unfolding pins.pinsOf
+unfolding node.pinsOf
 pin-bit t c p h l =
     let core : (4 * c + p) / 4 ≡ c = omega arith in
     let pin : (4 * c + p) % 4 ≡ p = omega arith in
@@ -215,7 +215,7 @@ stays : (edge drive latch : Bool) → cond (edge && (not drive && drive)) true (
 stays = taut 3 _ _ tt
 
 -- whatever becomes of the bridge's lines
-settles : (n : Node) (before after : ℕ) → Settles n (nodes.settledOf n (n .edge) (pins.driveWord n before) (pins.driveWord n after))
+settles : (n : Node) (before after : ℕ) → Settles n (nodes.settledOf (nodes.beforeOf n before) n after)
 unfolding nodes.settledOf latched risen cleared
 settles n before after = (
   refl,
@@ -231,13 +231,13 @@ core-left d true k = (refl, refl, refl)
 core-left d false k = (refl, refl, refl)
 
 left : (d : Device) (p : Plan) → Left p d (nextOf d p)
-unfolding nextOf tree.actedOf tree.movedOf tree.settledOf tree.writtenOf tree.changedOf resetOf startOf tree.resetOf tree.withLevels
+unfolding nextOf tree.actedOf tree.unsettledOf tree.settledOf tree.appliedOf tree.movedOf resetOf startOf tree.resetOf tree.withLevels
 left d (Refuse reason) = refl
 left d (ReadCore register core width) = refl
 left d (ReadTree read) = refl
 left d (WriteCore effect core) = core-left d (eqb core 0) (cores.appliedOf (cond (eqb core 0) (d .core0) (d .core1)) effect)
 left d (WriteTree (write.Bridge effect)) = ((refl, refl), refl, settles _ _ _, refl)
-left d (WriteTree (write.Gate written on)) = ((refl, refl), refl, settles _ _ _, refl)
+left d (WriteTree (write.Gate mask value)) = ((refl, refl), refl, settles _ _ _, refl)
 left d (WriteTree (write.Node effect)) = ((refl, refl), refl, refl, refl)
 left d (ChangeTree (change.Bridge c)) = ((refl, refl), refl, settles _ _ _, refl)
 left d (ChangeTree (change.Input level source)) = ((refl, refl), refl, settles _ _ _, refl)

@@ -10,15 +10,15 @@ use Rattle.bits.proofs.Taut.{taut}
 use Rattle.bits.proofs.Words.{bit-word, bit-zero}
 use Rattle.order.specs.Order.{run}
 use Rattle.answers.specs.Answers.{outcomeData}
-use Rattle.bridge.specs.declared.Cell.{Cell}
-use Rattle.bridge.specs.declared.Cell.the-variants.{Mask, Msi, Route}
-use Rattle.bridge.specs.declared.Change.{Change}
-use Rattle.bridge.specs.declared.Change.the-variants.{Modes, Soft, Auto, Clear, Nothing}
-use Rattle.bridge.specs.declared.Chip.the-variants.{Chip0, Chip1}
+use Rattle.bridge_registers.specs.declared.Cell.{Cell}
+use Rattle.bridge_registers.specs.declared.Cell.the-variants.{Mask, Msi, Route}
+use Rattle.bridge_registers.specs.declared.Change.{Change}
+use Rattle.bridge_registers.specs.declared.Change.the-variants.{Edge, Soft, Auto, Latch, Nothing}
+use Rattle.bridge_registers.specs.declared.Chip.the-variants.{Chip0, Chip1}
 use Rattle.turns.specs.Turns.{turnsOf}
-use Rattle.sources.specs.declared.Bridge.{Bridge}
-use Rattle.sources.specs.Sources as sources
-use Rattle.sources.specs.Changes as changes
+use Rattle.bridge.specs.declared.Bridge.{Bridge}
+use Rattle.bridge.specs.Sources as sources
+use Rattle.bridge.specs.Changes as changes
 use Rattle.tree.specs.declared.Write.the-variants as write
 use Rattle.tree.specs.declared.Change.the-variants as change
 use Rattle.tree.specs.Tree as tree
@@ -52,27 +52,27 @@ applied b Mask m v i = unmoved b (changes.on b Mask m v) i refl refl
 applied b Msi m v i = unmoved b (changes.on b Msi m v) i refl refl
 applied b (Route j) m v i = unmoved b (changes.on b (Route j) m v) i refl refl
 
-settled : (b e : Bridge) (i : ℕ) → i < 64 → e .turn ≡ b .turn → Turned b (changes.settledOf b e) i
+settled : (b e : Bridge) (i : ℕ) → i < 64 → e .turn ≡ b .turn → Turned b (changes.settledOf (changes.beforeOf b) e) i
 unfolding changes.settledOf changes.turnedOf changes.latchedOf turnsOf sources.requestWord
 settled b e i h t = bit-word 64 _ i h ∙ rw (bit-word 64 _ i h, bit-word 64 _ i h, t)
 
 moved-turn : (b : Bridge) (c : Change) → changes.movedOf b c .turn ≡ b .turn
 unfolding changes.movedOf
-moved-turn b (Modes v) = refl
-moved-turn b (Soft v) = refl
-moved-turn b (Auto v) = refl
-moved-turn b (Clear v) = refl
+moved-turn b (Edge m v) = refl
+moved-turn b (Soft m v) = refl
+moved-turn b (Auto m v) = refl
+moved-turn b (Latch m v) = refl
 moved-turn b Nothing = refl
 
 planned : (d : Device) (p : Plan) (i : ℕ) → i < 64 → (p ≡ Reset → ⊥) → Turned (bridge d) (bridge (nextOf d p)) i
-unfolding nextOf tree.actedOf tree.movedOf tree.settledOf tree.writtenOf tree.changedOf changes.appliedOf changes.changedOf changes.inputOf changes.levelledOf
+unfolding nextOf tree.actedOf tree.unsettledOf tree.settledOf tree.appliedOf tree.movedOf changes.appliedOf changes.changedOf changes.inputOf changes.levelledOf
 planned d (Refuse reason) i h n = still (bridge d) i
 planned d (ReadCore register core width) i h n = still (bridge d) i
 planned d (ReadTree read) i h n = still (bridge d) i
 planned d (WriteCore effect core) i h n =
     cases (eqb core 0) (λ q. rw q (still (bridge d) i)) (λ q. rw q (still (bridge d) i))
 planned d (WriteTree (write.Bridge e)) i h n = applied (bridge d) (e .cell) (e .mask) (e .bits) i
-planned d (WriteTree (write.Gate written on)) i h n = still (bridge d) i
+planned d (WriteTree (write.Gate mask value)) i h n = still (bridge d) i
 planned d (WriteTree (write.Node effect)) i h n = still (bridge d) i
 planned d (ChangeTree (change.Bridge c)) i h n = settled (bridge d) (changes.movedOf (bridge d) c) i h (moved-turn (bridge d) c)
 planned d (ChangeTree (change.Input level source)) i h n = settled (bridge d) (changes.levelledOf (bridge d) source level) i h refl

@@ -7,9 +7,9 @@ use mathlib.Core.List.{List, [], _∷_, map}
 use mathlib.Core.Path.{_≡_}
 use lib.ListN.{replicate, set}
 use Rattle.cores.specs.declared.Core.{Core}
-use Rattle.sources.specs.declared.Bridge.{Bridge}
-use Rattle.sources.specs.Changes.{withDrive, withPlain}
-use Rattle.bridge.specs.declared.Register.the-variants.{IntMask, IntEdge, IntClr, IntIsrChip0, IntIsrChip1, IntIrr, RouteEntry}
+use Rattle.bridge.specs.declared.Bridge.{Bridge}
+use Rattle.bridge.specs.Cells.{withEdge, withLevel, withMask, withRoutes}
+use Rattle.bridge_registers.specs.declared.Register.the-variants.{IntMask, IntEdge, IntClr, IntIsrChip0, IntIsrChip1, IntIrr, RouteEntry}
 use Rattle.device.specs.declared.Device.{Device}
 use Rattle.answers.specs.declared.Answer.{Answer}
 use Rattle.steps.specs.declared.Step.{Step}
@@ -80,7 +80,7 @@ ones = 0xffffffffffffffff
 
 -- a bridge with only masks, modes, levels and the route of source 63 set
 abbrev bridged : ℕ → ℕ → ℕ → ℕ → Bridge
-bridged mask edge level route = withPlain (withDrive (freshOf .tree .bridge) edge 0 0 level) mask 0 (set (replicate 64 0) 63 route)
+bridged mask edge level route = withRoutes (withLevel (withEdge (withMask (freshOf .tree .bridge) mask) edge) level) (set (replicate 64 0) 63 route)
 
 -- the fresh device with such a bridge, and the gate
 abbrev treed : Bridge → Bool → Device

@@ -11,15 +11,15 @@ use lib.Dec.{eqb}
 use Rattle.bits.specs.Bits.{bit, digit}
 use Rattle.access.specs.declared.Refusal.{Refusal}
 use Rattle.cores.specs.declared.Core.{Core}
-use Rattle.bridge.specs.declared.Chip.{Chip}
-use Rattle.bridge.specs.declared.Register.{Register}
-use Rattle.bridge.specs.Registers.{inServiceAt}
-use Rattle.sources.specs.declared.Bridge.{Bridge}
-use Rattle.sources.specs.Sources.{requestAt, routeOf}
+use Rattle.bridge_registers.specs.declared.Chip.{Chip}
+use Rattle.bridge_registers.specs.declared.Register.{Register}
+use Rattle.bridge_registers.specs.Registers.{inServiceAt}
+use Rattle.bridge.specs.declared.Bridge.{Bridge}
+use Rattle.bridge.specs.Sources.{requestAt, routeOf}
 use Rattle.routes.specs.Routes.{toCore, toPin}
-use Rattle.pins.specs.declared.Node.{Node}
-use Rattle.pins.specs.Pins as pins
-use Rattle.pins.specs.Changes.{withDrive}
+use Rattle.node.specs.declared.Node.{Node}
+use Rattle.node.specs.Sources as node
+use Rattle.node.specs.Cells.{withLatch}
 use Rattle.tree.specs.declared.Tree.{Tree}
 use Rattle.tree.specs.declared.Write.the-variants as write
 use Rattle.tree.specs.declared.Change.the-variants as change
@@ -94,12 +94,12 @@ BridgeLines =
 pub record Routed (t : Tree) (c p : ℕ) : Type 0 where
   pub source : ℕ
   pub there : source < 32
-  pub pending : pins.requestAt (t .node) (linesOf t) source ≡ true
+  pub pending : node.requestAt (t .node) (linesOf t) source ≡ true
   pub enabled : bit (t .node .enable) source ≡ true
-  pub to-core : toCore (pins.routeOf (t .node) source) c ≡ true
-  pub to-pin : toPin (pins.routeOf (t .node) source) p ≡ true
+  pub to-core : toCore (node.routeOf (t .node) source) c ≡ true
+  pub to-pin : toPin (node.routeOf (t .node) source) p ≡ true
 
--- the line of core c and pin p: one and the same source has all of it
+-- the line of core c and pin p: request, enable, core and pin must belong to the same source
 abbrev pub PinLines : Type 0
 PinLines =
     (d : Device) (s : Step) (c p : ℕ) → c < 2 → p < 4
@@ -135,7 +135,7 @@ WindowStays d e = e .«second_open» ≡ d .«second_open»
 
 -- all of the node but its latches stays, and of those all but the ones that the bridge's two lines reach
 abbrev pub Settles : Node → Node → Type 0
-Settles n m = (m ≡ withDrive n (n .edge) (m .latch) (n .level)) × ((i : ℕ) → 2 ≤ i → i < 32 → bit (m .latch) i ≡ bit (n .latch) i)
+Settles n m = (m ≡ withLatch n (m .latch)) × ((i : ℕ) → 2 ≤ i → i < 32 → bit (m .latch) i ≡ bit (n .latch) i)
 
 -- all but the bridge, and what follows from it at the node
 abbrev pub BesideBridge : Device → Device → Type 0

@@ -10,12 +10,12 @@ use mathlib.Core.List.{List, [], _∷_}
 use Rattle.bits.specs.Bits.{bit}
 use Rattle.order.specs.Order.{run}
 use Rattle.answers.specs.Answers.{outcomeData}
-use Rattle.bridge.specs.declared.Chip.{Chip}
-use Rattle.bridge.specs.declared.Chip.the-variants.{Chip0, Chip1}
-use Rattle.bridge.specs.Registers.{inServiceAt}
+use Rattle.bridge_registers.specs.declared.Chip.{Chip}
+use Rattle.bridge_registers.specs.declared.Chip.the-variants.{Chip0, Chip1}
+use Rattle.bridge_registers.specs.Registers.{inServiceAt}
 use Rattle.turns.specs.Turns.{nextTurn}
-use Rattle.sources.specs.declared.Bridge.{Bridge}
-use Rattle.sources.specs.Sources.{pendingAt, requestAt, routeOf}
+use Rattle.bridge.specs.declared.Bridge.{Bridge}
+use Rattle.bridge.specs.Sources.{pendingAt, requestAt, routeOf}
 use Rattle.steps.specs.declared.Step.{Step}
 use Rattle.steps.specs.declared.Step.the-variants as step
 use Rattle.device.specs.declared.Device.{Device}

@@ -1,15 +1,16 @@
 -- Each bullet of "Which writes the order rule covers", by computation of the definitions.
 use mathlib.Core.Path.{refl}
-use Rattle.ipi.specs.Effect as ipi
-use Rattle.bridge.specs.Registers.{writtenOf}
-use Rattle.node.specs.Effect as node
+use Rattle.ipi_registers.specs.Effect as ipi
+use Rattle.bridge_registers.specs.Registers.{writtenOf}
+use Rattle.node_registers.specs.Effect as node
 use Rattle.tree.specs.Tree.{gateWritten}
+use Rattle.admission.specs.Refusals.{targetAt}
 use Rattle.steps.specs.Decide.{nodePlan, writePlan, writtenPlan}
 use Rattle.reorder.specs.Writes.{givenOf, treeGiven}
 use Rattle.reorder.specs.Covered.{Covered}
 
 pub covered : Covered
-unfolding givenOf treeGiven writePlan nodePlan writtenPlan writtenOf node.writtenOf gateWritten ipi.effectOf ipi.targetOf ipi.ipiSent ipi.mailSent
+unfolding givenOf treeGiven targetAt writePlan nodePlan writtenPlan writtenOf node.writtenOf gateWritten ipi.effectOf ipi.targetOf ipi.ipiSent ipi.mailSent
 covered = record {
   enable = λ c w v. refl;
   set = λ c w v. refl;

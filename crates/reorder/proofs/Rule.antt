@@ -1,20 +1,21 @@
 -- The order rule of the device: a listed write, seen without the latches of the node, is its effect on the cells, and leaves the rest.
-use mathlib.Core.Path.{_≡_, refl, sym, ap, _∙_}
+use mathlib.Core.Path.{_≡_, refl, sym, ap, subst, _∙_}
 use mathlib.Core.Bool.{Bool, true, false, _&&_, true≢false}
 use Prim.Native.Nat.{ℕ}
 use lib.Dec.{eqb}
+use lib.ListN.{length, getD}
 use borrow.Table.Steps.{cases}
 use Rattle.bits.proofs.Words.{bit-digit}
 use Rattle.order.specs.Viewed.{Viewed, perform}
 use Rattle.order.proofs.Blocks.{block-viewed}
 use Rattle.order.proofs.Rule.{view-rule}
 use Rattle.order.proofs.Writes.{answers-stay, listed-written}
-use Rattle.ipi.specs.declared.Effect as ipi
+use Rattle.ipi_registers.specs.declared.Effect as ipi
 use Rattle.cores.specs.Core as cores
-use Rattle.sources.specs.Changes.{appliedOf}
-use Rattle.node.specs.declared.Cell as node
-use Rattle.node.specs.declared.Cell.the-variants.{Inten, Entry}
-use Rattle.pins.specs.Changes as pins
+use Rattle.bridge.specs.Changes.{appliedOf}
+use Rattle.node_registers.specs.declared.Cell as node
+use Rattle.node_registers.specs.declared.Cell.the-variants.{Inten, Entry}
+use Rattle.node.specs.Changes as nodes
 use Rattle.tree.specs.declared.Act.the-variants as act
 use Rattle.tree.specs.declared.Write.{Write}
 use Rattle.tree.specs.declared.Write.the-variants as write
@@ -27,8 +28,9 @@ use Rattle.steps.specs.Decide.{decideOf}
 use Rattle.device.specs.declared.Device.{Device}
 use Rattle.device.specs.Device.{answeredOf, withTree}
 use Rattle.device.specs.Step.{nextOf, outcomeOf, stepOf}
-use Rattle.reorder.specs.declared.Cell.the-variants.{Node}
-use Rattle.reorder.specs.Cells.{Rest, get, rest, same, width}
+use Rattle.reorder.specs.declared.Cell.{Cell}
+use Rattle.reorder.specs.declared.Cell.the-variants.{Core0, Core1, Bridge, Gate, Node}
+use Rattle.reorder.specs.Cells.{Rest, get, rest, rowOf, same, width}
 use Rattle.reorder.specs.Writes.{effectOf, givenIn, givenOf, isWrite, listed, listedIn, treeGiven}
 use Rattle.reorder.specs.Private.{Whole}
 use Rattle.reorder.specs.Rule.{Ordered, next, outcome, viewOf}
@@ -42,13 +44,13 @@ core-on d c e = cases (eqb c 0) (λ q. rw q) (λ q. rw q)
 
 -- what follows from a write shows in the latches of the node alone, as does what Intenclr does beside its effect
 node-on : (d : Device) (c : node.Cell) (m b : ℕ)
-    → viewOf (withTree d (tree.settledOf (d .tree) (tree.withNode (d .tree) (pins.on (d .tree .node) c m b)))) ≡ on (viewOf d) (Node c) m b
-unfolding viewOf tree.settledOf pins.settledOf
+    → viewOf (withTree d (tree.settledOf (tree.beforeOf (d .tree)) (tree.withNode (d .tree) (nodes.on (d .tree .node) c m b)))) ≡ on (viewOf d) (Node c) m b
+unfolding viewOf tree.settledOf nodes.settledOf
 node-on d Inten m b = refl
 node-on d (Entry i) m b = refl
 
 tree-on : (d : Device) (w : Write) → viewOf (withTree d (tree.actedOf (d .tree) (act.Write w))) ≡ perform apply (effectOf (treeGiven w)) (viewOf d)
-unfolding viewOf tree.actedOf tree.movedOf tree.settledOf tree.writtenOf treeGiven appliedOf pins.settledOf pins.appliedOf
+unfolding viewOf tree.actedOf tree.unsettledOf tree.settledOf tree.appliedOf treeGiven appliedOf nodes.settledOf nodes.appliedOf
 tree-on d (write.Bridge e) = refl
 tree-on d (write.Gate true o) = rw (bit-digit true, bit-digit o)
 tree-on d (write.Gate false o) = refl
@@ -87,12 +89,27 @@ performs : (s : Step) (d : Device) → listedIn (d .«second_open») s ≡ true 
 unfolding stepOf answeredOf givenIn
 performs s d l = plain-in (d .«second_open») s l .does d
 
-viewed : Viewed width get same next viewOf rest (λ k s. effectOf (givenIn (k .window) s)) (λ k s. listedIn (k .window) s ≡ true) (λ d. Seen (viewOf d))
+-- the view leaves every cell as it is
+words-view : (d : Device) (c : Cell) → rowOf c .words (viewOf d) ≡ rowOf c .words d
+unfolding viewOf
+words-view d (Core0 c) = refl
+words-view d (Core1 c) = refl
+words-view d (Bridge c) = refl
+words-view d Gate = refl
+words-view d (Node Inten) = refl
+words-view d (Node (Entry i)) = refl
+
+abbrev Through : (Device → Cell → ℕ) → Type 0
+Through cell =
+    Viewed width cell same next viewOf rest (λ k s. effectOf (givenIn (k .window) s)) (λ k s. listedIn (k .window) s ≡ true) (λ d. Seen (viewOf d))
+
+viewed : Through get
 unfolding viewOf
 viewed =
-    block-viewed device-block rest (λ d e. rest-on d (e .cell) (e .mask) (e .bits)) device-determined viewOf next
+    subst Through (λ i d c. getD (words-view d c i) (rowOf c .index) 0)
+    (block-viewed device-block rest (λ d e. rest-on d (e .cell) (e .mask) (e .bits)) device-determined viewOf next
     (λ k s. effectOf (givenIn (k .window) s)) (λ k s. listedIn (k .window) s ≡ true)
-    (λ s d l h. performs s d l)
+    (λ s d l h. performs s d l))
 
 by-rest : (s : Step) (d e : Device) → listedIn (d .«second_open») s ≡ true → rest d ≡ rest e → outcome s d ≡ outcome s e
 unfolding stepOf answeredOf
@@ -102,7 +119,7 @@ by-rest s d e l q =
 
 seen : (d : Device) → Whole d → Seen (viewOf d)
 unfolding viewOf
-seen d h = record { sized = sized d h; latch = refl }
+seen d h = record { sized = λ c. ap length (words-view d c) ∙ sized d h c; latch = refl }
 
 pub ordered : (d : Device) → Whole d → Ordered d
 unfolding viewOf answeredOf

@@ -1,76 +1,63 @@
--- The cells that plain writes reach (01, "The cells"; request Q-2, point 2), as a table with a line for each; and the rest of the device, which no
+-- The cells that plain writes reach (01, "The cells"; request Q-2), as a table with a line for each; and the rest of the device, which no
 -- plain write changes. Neither has the latches of the node (section 8.2), which the order rule leaves out.
---   cells   a cell's name, how many there are, the bits of each, and the words in a device     place   a cell's row in the table, and its index
---   width, get, same   of cells, by the table     Rest, rest   what plain writes leave
-use Prim.Native.Nat.{ℕ, _+_}
+--   coreRow, bridgeRow, gateRow, nodeRow   the table of each block: a cell's name, a number of its own, its index where it is one of several, how
+--                                          many there are, the bits of each, and the words in the block
+--   rowOf              the cell in a device     width, get, same   of cells, by the table
+--   Rest, rest         what plain writes leave
+use Prim.Native.Nat.{ℕ}
 use mathlib.Core.Bool.{Bool}
-use mathlib.Core.List.{List, [], _∷_, _++_}
 use Rattle.bits.specs.Bits.{digit}
-use Rattle.order.specs.Places.{Kind, Place, at, kind, samePlace, widthAt, wordAt}
-use Rattle.ipi.specs.declared.Cell as ipi
-use Rattle.ipi.specs.declared.Cell.the-variants.{Status, Enable, MailBox}
+use Rattle.order.specs.Places.{Row, inBlock, one, oneOf, sameCell, widthOf, wordOf}
+use Rattle.ipi_registers.specs.declared.Cell as ipi
+use Rattle.ipi_registers.specs.declared.Cell.the-variants.{Status, Enable, MailBox}
 use Rattle.cores.specs.declared.Core.{Core}
-use Rattle.bridge.specs.declared.Cell as bridge
-use Rattle.bridge.specs.declared.Cell.the-variants.{Mask, Msi, Route}
-use Rattle.node.specs.declared.Cell as node
-use Rattle.node.specs.declared.Cell.the-variants.{Inten, Entry}
+use Rattle.bridge_registers.specs.declared.Cell as bridge-cell
+use Rattle.bridge_registers.specs.declared.Cell.the-variants.{Mask, Msi, Route}
+use Rattle.bridge.specs.declared.Bridge as bridge
+use Rattle.node_registers.specs.declared.Cell as node-cell
+use Rattle.node_registers.specs.declared.Cell.the-variants.{Inten, Entry}
+use Rattle.node.specs.declared.Node as node
 use Rattle.device.specs.declared.Device.{Device}
 use Rattle.reorder.specs.declared.Cell.{Cell}
 use Rattle.reorder.specs.declared.Cell.the-variants.{Core0, Core1, Bridge, Gate, Node}
 
 -- of a core: Status and Enable, 32 bits each; MailBox0 to MailBox3, 64 bits each
-abbrev coreCells : (ipi.Cell → Cell) → (Device → Core) → List (Kind Device Cell)
-coreCells name core =
-    kind (λ i. name Status) 1 32 (λ d. core d .status ∷ [])
-    ∷ kind (λ i. name Enable) 1 32 (λ d. core d .enable ∷ [])
-    ∷ kind (λ i. name (MailBox i)) 4 64 (λ d. core d .mail)
-    ∷ []
+abbrev pub coreRow : ipi.Cell → Row Core
+coreRow Status = one 0 32 (λ c. c .status)
+coreRow Enable = one 1 32 (λ c. c .enable)
+coreRow (MailBox i) = oneOf 2 i 4 64 (λ c. c .mail)
 
--- of the tree: a mask, a message enable and two route bits for each of the bridge's 64 sources; one gate bit; an enable and a route byte, of
--- which six bits are held, for each of the node's 32 sources
-abbrev treeCells : List (Kind Device Cell)
-treeCells =
-    kind (λ i. Bridge Mask) 1 64 (λ d. d .tree .bridge .mask ∷ [])
-    ∷ kind (λ i. Bridge Msi) 1 64 (λ d. d .tree .bridge .msi ∷ [])
-    ∷ kind (λ i. Bridge (Route i)) 64 2 (λ d. d .tree .bridge .routes)
-    ∷ kind (λ i. Gate) 1 1 (λ d. digit (d .tree .gate) ∷ [])
-    ∷ kind (λ i. Node Inten) 1 32 (λ d. d .tree .node .enable ∷ [])
-    ∷ kind (λ i. Node (Entry i)) 32 8 (λ d. d .tree .node .routes)
-    ∷ []
+-- of the bridge: a mask, a message enable and two route bits for each of its 64 sources
+abbrev pub bridgeRow : bridge-cell.Cell → Row bridge.Bridge
+bridgeRow Mask = one 0 64 (λ b. b .mask)
+bridgeRow Msi = one 1 64 (λ b. b .msi)
+bridgeRow (Route i) = oneOf 2 i 64 2 (λ b. b .routes)
 
-abbrev pub cells : List (Kind Device Cell)
-cells = coreCells (λ c. Core0 c) (λ d. d .core0) ++ coreCells (λ c. Core1 c) (λ d. d .core1) ++ treeCells
+-- one gate bit
+abbrev pub gateRow : Row Bool
+gateRow = one 0 1 digit
 
--- rows are counted from 0; the first row of a block is given
-abbrev pub messagePlace : ℕ → ipi.Cell → Place
-messagePlace first Status = at first 0
-messagePlace first Enable = at (first + 1) 0
-messagePlace first (MailBox i) = at (first + 2) i
+-- of the node: an enable and a route byte, of which six bits are held, for each of its 32 sources
+abbrev pub nodeRow : node-cell.Cell → Row node.Node
+nodeRow Inten = one 0 32 (λ n. n .enable)
+nodeRow (Entry i) = oneOf 1 i 32 8 (λ n. n .routes)
 
-abbrev pub sourcePlace : ℕ → bridge.Cell → Place
-sourcePlace first Mask = at first 0
-sourcePlace first Msi = at (first + 1) 0
-sourcePlace first (Route i) = at (first + 2) i
-
-abbrev pub nodePlace : ℕ → node.Cell → Place
-nodePlace first Inten = at first 0
-nodePlace first (Entry i) = at (first + 1) i
-
-abbrev pub place : Cell → Place
-place (Core0 c) = messagePlace 0 c
-place (Core1 c) = messagePlace 3 c
-place (Bridge c) = sourcePlace 6 c
-place Gate = at 9 0
-place (Node c) = nodePlace 10 c
+-- each block with a number of its own
+abbrev pub rowOf : Cell → Row Device
+rowOf (Core0 c) = inBlock 0 (λ d. d .core0) (coreRow c)
+rowOf (Core1 c) = inBlock 1 (λ d. d .core1) (coreRow c)
+rowOf (Bridge c) = inBlock 2 (λ d. d .tree .bridge) (bridgeRow c)
+rowOf Gate = inBlock 3 (λ d. d .tree .gate) gateRow
+rowOf (Node c) = inBlock 4 (λ d. d .tree .node) (nodeRow c)
 
 abbrev pub width : Cell → ℕ
-width c = widthAt cells (place c)
+width c = widthOf (rowOf c)
 
 abbrev pub get : Device → Cell → ℕ
-get d c = wordAt cells d (place c)
+get d c = wordOf (rowOf c) d
 
 abbrev pub same : Cell → Cell → Bool
-same a b = samePlace (place a) (place b)
+same a b = sameCell (rowOf a) (rowOf b)
 
 -- edge modes, latches, soft bits, input levels, turn modes and turns of the bridge's sources, edge choices and input levels of the node's, and the
 -- window switch

@@ -1,31 +1,32 @@
 -- 01, "Which writes the order rule covers", and request Q-2, bullet by bullet: what each write gives where it is accepted. The values are those
--- of `effectOf` in crates/ipi/specs/Effect.antt, `gateWritten` in crates/tree/specs/Tree.antt and `writtenOf` in
--- crates/bridge/specs/Registers.antt and crates/node/specs/Effect.antt, which demand 2's step uses too; proofs/Covered has each line by computation.
+-- of `effectOf` in crates/ipi_registers/specs/Effect.antt, `gateWritten` in crates/tree/specs/Tree.antt and `writtenOf` in
+-- crates/bridge_registers/specs/Registers.antt and crates/node_registers/specs/Effect.antt, which demand 2's step uses too; proofs/Covered has each line by computation.
 --   Covered   the bullets     ofAccess, ofBridge   what an accepted write gives, by the place it reaches and by the register's name
 use Prim.Native.Nat.{ℕ, _/_, _^_}
 use mathlib.Core.Path.{_≡_}
 use Rattle.bits.specs.Bits.{bit, digit, field}
 use Rattle.lanes.specs.Bytes.{writtenBytes}
-use Rattle.ipi.specs.declared.Register.the-variants as ipi
-use Rattle.ipi.specs.declared.Cell.the-variants as cell
-use Rattle.ipi.specs.Effect.{inHalf}
-use Rattle.bridge.specs.declared.Register.{Register}
-use Rattle.bridge.specs.declared.Register.the-variants as bridge
-use Rattle.bridge.specs.declared.Cell.the-variants as source
-use Rattle.bridge.specs.Registers.{writtenOf}
-use Rattle.node.specs.declared.Register.the-variants as node
-use Rattle.node.specs.declared.Cell.the-variants as pin
+use Rattle.ipi_registers.specs.declared.Register.the-variants as ipi
+use Rattle.ipi_registers.specs.declared.Cell.the-variants as cell
+use Rattle.ipi_registers.specs.Effect.{inHalf}
+use Rattle.bridge_registers.specs.declared.Register.{Register}
+use Rattle.bridge_registers.specs.declared.Register.the-variants as bridge
+use Rattle.bridge_registers.specs.declared.Cell.the-variants as bridge-cell
+use Rattle.bridge_registers.specs.Registers.{writtenOf}
+use Rattle.node_registers.specs.declared.Register.the-variants as node
+use Rattle.node_registers.specs.declared.Cell.the-variants as node-cell
 use Rattle.windows.specs.declared.Place.{Place}
 use Rattle.windows.specs.declared.Place.the-variants as place
+use Rattle.admission.specs.Refusals.{targetAt}
 use Rattle.steps.specs.Decide.{writePlan, writtenPlan}
 use Rattle.reorder.specs.declared.Cell.the-variants.{Bridge, Gate, Node}
 use Rattle.reorder.specs.declared.Given.{Given}
 use Rattle.reorder.specs.declared.Given.the-variants.{NotListed, Nothing, Bits}
 use Rattle.reorder.specs.Writes.{givenOf, ofCore}
 
--- by every path: bus and private accesses reach a place, bridge accesses name a register
+-- by every path: bus and private accesses reach a place and a core, bridge accesses name a register
 abbrev pub ofAccess : Place → ℕ → ℕ → Given
-ofAccess p width value = givenOf (writePlan p width value)
+ofAccess p width value = givenOf (writePlan p (targetAt p value) width value)
 
 abbrev pub ofBridge : Register → ℕ → Given
 ofBridge register value = givenOf (writtenPlan (writtenOf register value))
@@ -53,13 +54,13 @@ pub record Covered : Type 0 where
   pub gate-high : (w v : ℕ) → ofAccess place.GateHigh w v ≡ Bits Gate 1 (digit (bit v 16))
   pub gate-low : (v : ℕ) → ofAccess place.Gate 4 v ≡ Nothing
   -- INT_MASK, MSI_EN: the value's bits, to all 64 masks or message enables.
-  pub int-mask : (v : ℕ) → ofBridge bridge.IntMask v ≡ Bits (Bridge source.Mask) 0xffffffffffffffff v
-  pub msi-en : (v : ℕ) → ofBridge bridge.MsiEn v ≡ Bits (Bridge source.Msi) 0xffffffffffffffff v
+  pub int-mask : (v : ℕ) → ofBridge bridge.IntMask v ≡ Bits (Bridge bridge-cell.Mask) 0xffffffffffffffff v
+  pub msi-en : (v : ℕ) → ofBridge bridge.MsiEn v ≡ Bits (Bridge bridge-cell.Msi) 0xffffffffffffffff v
   -- ROUTE_ENTRY: bits 0 and 1, to its source's two route bits.
-  pub route-entry : (i v : ℕ) → ofBridge (bridge.RouteEntry i) v ≡ Bits (Bridge (source.Route i)) 3 v
+  pub route-entry : (i v : ℕ) → ofBridge (bridge.RouteEntry i) v ≡ Bits (Bridge (bridge-cell.Route i)) 3 v
   -- Q-2. Intenset: 1 to each enable where the value has 1. Intenclr: 0 there. Entry: bits 7..4, 1 and 0, to its source's route.
-  pub intenset : (w v : ℕ) → ofAccess (place.Node node.Intenset) w v ≡ Bits (Node pin.Inten) v v
-  pub intenclr : (w v : ℕ) → ofAccess (place.Node node.Intenclr) w v ≡ Bits (Node pin.Inten) v 0
-  pub entry : (i w v : ℕ) → ofAccess (place.Node (node.Entry i)) w v ≡ Bits (Node (pin.Entry i)) 0xf3 v
+  pub intenset : (w v : ℕ) → ofAccess (place.Node node.Intenset) w v ≡ Bits (Node node-cell.Inten) v v
+  pub intenclr : (w v : ℕ) → ofAccess (place.Node node.Intenclr) w v ≡ Bits (Node node-cell.Inten) v 0
+  pub entry : (i w v : ℕ) → ofAccess (place.Node (node.Entry i)) w v ≡ Bits (Node (node-cell.Entry i)) 0xf3 v
   -- Intedge: an accepted write is in no list.
   pub intedge : (w v : ℕ) → ofAccess (place.Node node.Intedge) w v ≡ NotListed

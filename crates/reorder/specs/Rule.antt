@@ -13,7 +13,7 @@ use Rattle.order.specs.Order.{All, AnswersStay, ClashFree, SameEnd, run}
 use Rattle.order.specs.Viewed.{Written}
 use Rattle.answers.specs.declared.Outcome.{Outcome}
 use Rattle.answers.specs.Answers.{firstFour}
-use Rattle.pins.specs.Changes.{withDrive}
+use Rattle.node.specs.Cells.{withLatch}
 use Rattle.tree.specs.Tree.{withNode}
 use Rattle.steps.specs.declared.Step.{Step}
 use Rattle.device.specs.declared.Device.{Device}
@@ -24,7 +24,7 @@ use Rattle.reorder.specs.Writes.{Listed, gives}
 
 -- the end states are compared in every cell but the 32 latches of section 8.2, which stand here as 0
 unfoldable pub viewOf : Device → Device
-viewOf d = let n = d .tree .node in withTree d (withNode (d .tree) (withDrive n (n .edge) 0 (n .level)))
+viewOf d = withTree d (withNode (d .tree) (withLatch (d .tree .node) 0))
 
 -- demand 2's own step: the device after it, and its outcome
 abbrev pub next : Step → Device → Device

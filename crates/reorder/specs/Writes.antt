@@ -8,7 +8,7 @@ use mathlib.Core.Option.{Option, none, some}
 use lib.Dec.{eqb}
 use Rattle.bits.specs.Bits.{digit}
 use Rattle.order.specs.Cells as order
-use Rattle.ipi.specs.declared.Cell as ipi
+use Rattle.ipi_registers.specs.declared.Cell as ipi
 use Rattle.tree.specs.declared.Write.{Write}
 use Rattle.tree.specs.declared.Write.the-variants as write
 use Rattle.device.specs.declared.Device.{Device}
@@ -32,7 +32,7 @@ ofCore c cell = cond (eqb c 0) (Core0 cell) (Core1 cell)
 -- the gate is given a value where the write reaches it
 unfoldable pub treeGiven : Write → Given
 treeGiven (write.Bridge e) = Bits (Bridge (e .cell)) (e .mask) (e .bits)
-treeGiven (write.Gate written on) = cond written (Bits Gate 1 (digit on)) Nothing
+treeGiven (write.Gate mask value) = cond mask (Bits Gate 1 (digit value)) Nothing
 treeGiven (write.Node e) = Bits (Node (e .cell)) (e .mask) (e .bits)
 
 -- A refused write may stand in a list, and gives no bit a value. Reads, changes that are not plain (an accepted write to SOFT_INT, INTEDGE,

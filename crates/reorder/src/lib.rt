@@ -4,13 +4,13 @@ ghost use mathlib.Core.Path.{_≡_};
 ghost use mathlib.Core.Bool.{true};
 ghost use lib.ListN.{length};
 ghost use Rattle.device.specs.Device.{withTree};
-ghost use Rattle.pins.specs.Changes.{withDrive};
+ghost use Rattle.node.specs.Cells.{withLatch};
 ghost use Rattle.tree.specs.Tree.{withNode};
 ghost use Rattle.reorder.specs.Private.{Whole};
 ghost use Rattle.reorder.specs.Rule.{Ordered, viewOf};
 ghost use Rattle.reorder.specs.Writes as writes;
 use device::Device;
-use pins::Node;
+use node::Node;
 use steps::Plan;
 use steps::Step;
 use tree::Tree;
@@ -18,11 +18,11 @@ use tree::Write;
 
 // A cell that plain writes reach.
 pub enum Cell {
-    Core0(ipi::Cell),
-    Core1(ipi::Cell),
-    Bridge(bridge::Cell),
+    Core0(ipi_registers::Cell),
+    Core1(ipi_registers::Cell),
+    Bridge(bridge_registers::Cell),
     Gate,
-    Node(node::Cell),
+    Node(node_registers::Cell),
 }
 
 // What a step gives, if the order rule covers it: the bits of the cell that are in mask take the values in bits.
@@ -86,7 +86,7 @@ fn with_node(mut tree: Tree, node: Node) -> Tree
 }
 
 fn without_latches(mut node: Node) -> Node
-    ensures { λ r. ⌜ r ≡ withDrive node (node .edge) 0 (node .level) ⌝ }
+    ensures { λ r. ⌜ r ≡ withLatch node 0 ⌝ }
 {
     node.latch = 0;
     node
@@ -114,7 +114,7 @@ fn bits_of(cell: Cell, mask: u64, bits: u64) -> Given
     }
 }
 
-fn core_given(effect: ipi::Effect, core: u64) -> Given
+fn core_given(effect: ipi_registers::Effect, core: u64) -> Given
     ensures { λ r. ⌜ r ≡ writes.givenOf (Plan.WriteCore effect core) ⌝ }
 {
     let cell = effect.cell;
@@ -124,11 +124,11 @@ fn core_given(effect: ipi::Effect, core: u64) -> Given
     bits_of(Cell::Core1(cell), effect.mask, effect.bits)
 }
 
-fn gate_given(written: bool, on: bool) -> Given
-    ensures { λ r. ⌜ r ≡ writes.treeGiven (Write.Gate written on) ⌝ }
+fn gate_given(mask: bool, bit: bool) -> Given
+    ensures { λ r. ⌜ r ≡ writes.treeGiven (Write.Gate mask bit) ⌝ }
 {
-    if written {
-        return bits_of(Cell::Gate, 1, on as u64);
+    if mask {
+        return bits_of(Cell::Gate, 1, bit as u64);
     }
     Given::Nothing
 }
@@ -141,7 +141,7 @@ fn tree_given(write: Write) -> Given
             let cell = effect.cell;
             bits_of(Cell::Bridge(cell), effect.mask, effect.bits)
         }
-        Write::Gate { written, on } => gate_given(written, on),
+        Write::Gate { mask, bit } => gate_given(mask, bit),
         Write::Node(effect) => {
             let cell = effect.cell;
             bits_of(Cell::Node(cell), effect.mask, effect.bits)

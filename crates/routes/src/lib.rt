@@ -1,28 +1,8 @@
 // Table 8-6: the route bytes of the node's 32 sources: read, written, the sources routed to a core, the lines that routes name.
 ghost use mathlib.Core.Path.{_≡_};
-ghost use lib.ListN.{getD, set};
-ghost use Rattle.bits.specs.Bits.{merge};
+ghost use lib.ListN.{getD};
 ghost use Rattle.routes.specs.Routes.{linesOf, routeRead, routedOf, writtenOf};
 ghost use Rattle.routes.specs.Private.{reachedOf};
-
-fn route(routes: [u8; 32], source: u64) -> u8
-    ensures { λ r. ⌜ r ≡ getD routes source 0 ⌝ }
-{
-    if source < 32 {
-        routes[source as usize]
-    } else {
-        0
-    }
-}
-
-fn put_route(mut routes: [u8; 32], source: u64, v: u8) -> [u8; 32]
-    ensures { λ r. ⌜ r ≡ set routes source v ⌝ }
-{
-    if source < 32 {
-        routes[source as usize] = v;
-    }
-    routes
-}
 
 // Bits 3..2 name cores that the model lacks.
 fn held(byte: u8) -> u64
@@ -31,28 +11,20 @@ fn held(byte: u8) -> u64
     (byte & 0xf3) as u64
 }
 
-fn route_merge(old: u8, mask: u64, value: u64) -> u8
-    ensures { λ r. ⌜ r ≡ merge 8 old mask value ⌝ }
-{
-    (bits::merge(old as u64, mask, value) % 256) as u8
-}
-
 // What Entry reads as.
 pub fn read(routes: [u8; 32], source: u64) -> u64
     ensures { λ r. ⌜ r ≡ routeRead (getD routes source 0) ⌝ }
 {
-    held(route(routes, source))
+    held(lanes::byte_at(&routes, source))
 }
 
 // The routes after the bits in mask of one of them took values.
-pub fn written(routes: [u8; 32], source: u64, mask: u64, value: u64) -> [u8; 32]
+pub fn written(mut routes: [u8; 32], source: u64, mask: u64, value: u64) -> [u8; 32]
     ensures { λ r. ⌜ r ≡ writtenOf routes source mask value ⌝ }
 {
-    put_route(
-        routes,
-        source,
-        route_merge(route(routes, source), mask, value),
-    )
+    let old = lanes::byte_at(&routes, source);
+    lanes::put_at(&mut routes, source, bits::merge8(old, mask, value));
+    routes
 }
 
 // The sources in `which` that are routed to a core. Only their routes are looked at.

@@ -3,100 +3,61 @@ ghost use mathlib.Core.Path.{_≡_};
 ghost use mathlib.Core.List.{[]};
 ghost use Prim.Native.Nat.{_+_, _<_, _≤_};
 ghost use lib.ListN.{drop, getD, length};
-ghost use Rattle.script.specs.Line.{lineStep, lineSteps};
+ghost use Rattle.script.specs.Line.{formStep, lineStep, lineSteps};
 ghost use Rattle.script.specs.Block.{BlockRule, clashCount, clashesWith, counted};
-use bridge::Register;
 use clashes::Clash;
 use device::Device;
+use numbered::BRIDGE_READ;
+use numbered::BRIDGE_WRITE;
+use numbered::BUS_READ;
+use numbered::BUS_WRITE;
+use numbered::INPUT;
+use numbered::NODE_INPUT;
+use numbered::Numbered;
+use numbered::PRIVATE_READ;
+use numbered::PRIVATE_WRITE;
+use numbered::RESET;
+use numbered::WHICH;
+use numbered::WINDOW_SWITCH;
 use steps::Step;
 
 // ---- the step of a line
 
-// The forms of a line that is a step, by their numbers: specs/Line.antt has the words of each.
-pub const BUS_READ: u64 = 0;
+// A form has the number of its kind of step. Three kinds have a second form: specs/Line.antt has the words of each.
+pub const SOURCE_READ: u64 = 11;
 
-pub const BUS_WRITE: u64 = 1;
+pub const SOURCE_WRITE: u64 = 12;
 
-pub const CORE_READ: u64 = 2;
+pub const WINDOW_CLOSED: u64 = 13;
 
-pub const CORE_WRITE: u64 = 3;
-
-pub const BRIDGE_READ: u64 = 4;
-
-pub const BRIDGE_WRITE: u64 = 5;
-
-pub const ROUTE_READ: u64 = 6;
-
-pub const ROUTE_WRITE: u64 = 7;
-
-pub const INPUT: u64 = 8;
-
-pub const NODE_INPUT: u64 = 9;
-
-pub const WHICH: u64 = 10;
-
-pub const WINDOW_OPEN: u64 = 11;
-
-pub const WINDOW_CLOSED: u64 = 12;
-
-pub const RESET: u64 = 13;
-
-fn bridge_read(register: Register) -> Step
-    ensures { λ r. ⌜ r ≡ Step.BridgeRead register ⌝ }
+// The step of a line's form and values, with the kind, the unit, the place, the width and the value of each.
+fn form_step(v: [u64; 7]) -> Numbered
+    ensures { λ r. ⌜ r ≡ formStep v ⌝ }
 {
-    Step::BridgeRead { register }
+    match v[0] {
+        BUS_READ => numbered::step_of(BUS_READ, 0, v[2], v[3], 0),
+        BUS_WRITE => numbered::step_of(BUS_WRITE, 0, v[2], v[3], v[4]),
+        PRIVATE_READ => numbered::step_of(PRIVATE_READ, v[1], v[3], v[4], 0),
+        PRIVATE_WRITE => numbered::step_of(PRIVATE_WRITE, v[1], v[3], v[4], v[5]),
+        BRIDGE_READ => numbered::step_of(BRIDGE_READ, v[2], 0, 0, 0),
+        BRIDGE_WRITE => numbered::step_of(BRIDGE_WRITE, v[2], 0, 0, v[3]),
+        INPUT => numbered::step_of(INPUT, 0, v[1], 0, v[2]),
+        WINDOW_SWITCH => numbered::step_of(WINDOW_SWITCH, 0, 0, 0, 1),
+        RESET => numbered::step_of(RESET, 0, 0, 0, 0),
+        NODE_INPUT => numbered::step_of(NODE_INPUT, 0, v[2], 0, v[3]),
+        WHICH => numbered::step_of(WHICH, 0, v[1], 0, 0),
+        SOURCE_READ => numbered::step_of(BRIDGE_READ, v[2], v[3], 0, 0),
+        SOURCE_WRITE => numbered::step_of(BRIDGE_WRITE, v[2], v[3], 0, v[4]),
+        WINDOW_CLOSED => numbered::step_of(WINDOW_SWITCH, 0, 0, 0, 0),
+        _ => Numbered::Unknown,
+    }
 }
 
-fn bridge_write(register: Register, value: u64) -> Step
-    ensures { λ r. ⌜ r ≡ Step.BridgeWrite register value ⌝ }
-{
-    Step::BridgeWrite { register, value }
-}
-
-// The step of a line from its values: the number of its form, then the number at each word's place.
+// The step of a line from its values: the number of its form, then the number at each word's place. A line that is unknown is a reset.
 pub fn step_of(v: [u64; 7]) -> Step
     ensures { λ r. ⌜ r ≡ lineStep v ⌝ }
 {
-    match v[0] {
-        BUS_READ => Step::BusRead {
-            address: v[2],
-            width: v[3],
-        },
-        BUS_WRITE => Step::BusWrite {
-            address: v[2],
-            width: v[3],
-            value: v[4],
-        },
-        CORE_READ => Step::PrivateRead {
-            core: v[1],
-            offset: v[3],
-            width: v[4],
-        },
-        CORE_WRITE => Step::PrivateWrite {
-            core: v[1],
-            offset: v[3],
-            width: v[4],
-            value: v[5],
-        },
-        BRIDGE_READ => bridge_read(bridge::numbered(v[2], 0)),
-        BRIDGE_WRITE => bridge_write(bridge::numbered(v[2], 0), v[3]),
-        ROUTE_READ => bridge_read(Register::RouteEntry(v[3])),
-        ROUTE_WRITE => bridge_write(Register::RouteEntry(v[3]), v[4]),
-        INPUT => Step::Input {
-            source: v[1],
-            level: v[2] != 0,
-        },
-        NODE_INPUT => Step::NodeInput {
-            source: v[2],
-            level: v[3] != 0,
-        },
-        WHICH => Step::Which {
-            chip: bridge::chip_numbered(v[1]),
-        },
-        WINDOW_OPEN => Step::Window { open: true },
-        WINDOW_CLOSED => Step::Window { open: false },
-        _ => Step::Reset,
-    }
+    form_step(v).known_or(Step::Reset)
 }
 
 // ---- the writes of a block

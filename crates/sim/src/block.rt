@@ -1,14 +1,12 @@
 // A reorder block: its writes by their values (see parse.rt), and a line for each pair of them that clashes.
-use crate::counts::more;
-use crate::print::CLASH_BRIDGE;
-use crate::print::CLASH_CORE0;
-use crate::print::CLASH_CORE1;
-use crate::print::CLASH_GATE;
-use crate::print::CLASH_NODE;
+use crate::print::CLASH_BITS;
+use crate::print::put_filled;
 use crate::print::put_line;
 use clashes::Clash;
 use reorder::Cell;
 use script::step_of;
+use text::put;
+use text::put_decimal;
 
 // Keeps a write as the block's write i, and answers how many there are.
 pub(crate) fn keep(block: &mut [[u64; 7]; 256], i: usize, values: [u64; 7]) -> usize {
@@ -26,47 +24,44 @@ fn values_at(block: &[[u64; 7]; 256], i: usize) -> [u64; 7] {
     [0; 7]
 }
 
-// The line for a clash in a cell, and the cell's index where it is one of several.
-struct Place {
-    line: u64,
-    index: u64,
+// Puts a name and the index of one of several.
+fn put_indexed(out: &mut [u8], at: usize, name: &[u8], index: u64) -> usize {
+    let next = put(out, at, name);
+    put_decimal(out, next, index)
 }
 
-fn cell_at(line: u64, index: u64) -> Place {
-    Place { line, index }
-}
-
-// Of a core's cells, from the line for the first of them.
-fn core_place(cell: ipi::Cell, first: u64) -> Place {
+// Puts the name of a core's cell, behind the core's.
+fn put_core_cell(out: &mut [u8], at: usize, core: &[u8], cell: ipi_registers::Cell) -> usize {
+    let next = put(out, at, core);
     match cell {
-        ipi::Cell::Status => cell_at(first, 0),
-        ipi::Cell::Enable => cell_at(more(first), 0),
-        ipi::Cell::MailBox(index) => cell_at(more(more(first)), index),
+        ipi_registers::Cell::Status => put(out, next, b"Status"),
+        ipi_registers::Cell::Enable => put(out, next, b"Enable"),
+        ipi_registers::Cell::MailBox(i) => put_indexed(out, next, b"MailBox", i),
     }
 }
 
-fn bridge_place(cell: bridge::Cell, first: u64) -> Place {
+fn put_bridge_cell(out: &mut [u8], at: usize, cell: bridge_registers::Cell) -> usize {
     match cell {
-        bridge::Cell::Mask => cell_at(first, 0),
-        bridge::Cell::Msi => cell_at(more(first), 0),
-        bridge::Cell::Route(index) => cell_at(more(more(first)), index),
+        bridge_registers::Cell::Mask => put(out, at, b"INT_MASK"),
+        bridge_registers::Cell::Msi => put(out, at, b"MSI_EN"),
+        bridge_registers::Cell::Route(i) => put_indexed(out, at, b"ROUTE_ENTRY ", i),
     }
 }
 
-fn node_place(cell: node::Cell, first: u64) -> Place {
+fn put_node_cell(out: &mut [u8], at: usize, cell: node_registers::Cell) -> usize {
     match cell {
-        node::Cell::Inten => cell_at(first, 0),
-        node::Cell::Entry(index) => cell_at(more(first), index),
+        node_registers::Cell::Inten => put(out, at, b"Inten"),
+        node_registers::Cell::Entry(i) => put_indexed(out, at, b"Entry ", i),
     }
 }
 
-fn place_of(cell: Cell) -> Place {
+fn put_cell(out: &mut [u8], at: usize, cell: Cell) -> usize {
     match cell {
-        Cell::Core0(c) => core_place(c, CLASH_CORE0),
-        Cell::Core1(c) => core_place(c, CLASH_CORE1),
-        Cell::Bridge(c) => bridge_place(c, CLASH_BRIDGE),
-        Cell::Gate => cell_at(CLASH_GATE, 0),
-        Cell::Node(c) => node_place(c, CLASH_NODE),
+        Cell::Core0(c) => put_core_cell(out, at, b"core0.", c),
+        Cell::Core1(c) => put_core_cell(out, at, b"core1.", c),
+        Cell::Bridge(c) => put_bridge_cell(out, at, c),
+        Cell::Gate => put(out, at, b"gate"),
+        Cell::Node(c) => put_node_cell(out, at, c),
     }
 }
 
@@ -82,9 +77,9 @@ fn put_clash(
     match clashes::find_clash(second_open, step_of(a), step_of(b)) {
         Clash::Free => at,
         Clash::On { cell, bits } => {
-            let place = place_of(cell);
-            let values = [line, a[6], b[6], place.index, bits];
-            put_line(out, at, place.line, values, b"")
+            let start = put_filled(out, at, b"# clash # # ", [line, a[6], b[6], 0, 0], b"");
+            let end = put_cell(out, start, cell);
+            put_line(out, end, CLASH_BITS, [bits, 0, 0, 0, 0], b"")
         }
     }
 }

@@ -1,17 +1,21 @@
 // The forms of a line by their numbers, which are those of the entries of the tables in put_form and in parse.rt: first those of a step,
-// which are script's but for the last, a replay, then those of the other lines, then those that are open, of lines whose first words begin no
-// one form.
+// which have the numbers of their kinds, with script's second forms and a replay behind, then those of the other lines, then those that are
+// open, of lines whose first words begin no one form.
 use crate::counts::more;
 use crate::words::entry;
 use crate::words::find;
-use script::BRIDGE_READ;
-use script::BUS_READ;
-use script::CORE_READ;
-use script::INPUT;
-use script::NODE_INPUT;
-use script::RESET;
-use script::WHICH;
-use script::WINDOW_OPEN;
+use numbered::BRIDGE_READ;
+use numbered::BUS_READ;
+use numbered::INPUT;
+use numbered::NODE_INPUT;
+use numbered::PRIVATE_READ;
+use numbered::RESET;
+use numbered::ROUTE_ENTRY;
+use numbered::WHICH;
+use numbered::WINDOW_SWITCH;
+use script::SOURCE_READ;
+use script::SOURCE_WRITE;
+use script::WINDOW_CLOSED;
 use text::put;
 use text::same;
 
@@ -55,14 +59,14 @@ core C read OFFSET WIDTH
 core C write OFFSET WIDTH VALUE
 bridge read NAME
 bridge write NAME VALUE
-bridge read ROUTE_ENTRY SOURCE
-bridge write ROUTE_ENTRY SOURCE VALUE
 input SOURCE LEVEL, where LEVEL is 0 or 1
+window open
+reset
 node input SOURCE LEVEL, where LEVEL is 0 or 1
 which CHIP, where CHIP is 0 or 1
-window open
+bridge read ROUTE_ENTRY SOURCE
+bridge write ROUTE_ENTRY SOURCE VALUE
 window closed
-reset
 replay CAPTURE DUMP
 expect VALUE, expect refused N or expect lines BITS
 expect refused N
@@ -83,10 +87,7 @@ reorder begin or reorder end
     put(out, at, text)
 }
 
-// The last register of the bridge.
-const ROUTE_ENTRY: u64 = 10;
-
-// A register of the bridge by its number in 01's order; a number above ROUTE_ENTRY where the word names none.
+// A register of the bridge by the number of its name; a number above ROUTE_ENTRY where the word names none.
 pub(crate) fn register_named(name: &[u8]) -> u64 {
     find(
         b"INT_MASK MSI_EN INTEDGE SOFT_INT AUTO_CTRL0 AUTO_CTRL1 INTCLR INTISR_CHIP0 INTISR_CHIP1 INTIRR ROUTE_ENTRY",
@@ -103,7 +104,15 @@ fn either(word: &[u8], two: &[u8], form: u64, neither: u64) -> u64 {
     }
 }
 
-// The form of a bridge access, from the form that its verb begins: those of a route come two after those of another register.
+// The form of a bridge access of a register that has a source, from the form of one that has none.
+fn source_form(form: u64) -> u64 {
+    if form == BRIDGE_READ {
+        return SOURCE_READ;
+    }
+    SOURCE_WRITE
+}
+
+// The form of a bridge access, from the form that its verb begins.
 fn bridge_form(form: u64, register: u64) -> u64 {
     if form == BRIDGE {
         return form;
@@ -112,7 +121,7 @@ fn bridge_form(form: u64, register: u64) -> u64 {
         return form;
     }
     if register == ROUTE_ENTRY {
-        return more(more(form));
+        return source_form(form);
     }
     REGISTER
 }
@@ -125,6 +134,14 @@ fn node_form(second: &[u8]) -> u64 {
     NODE
 }
 
+fn window_form(second: &[u8]) -> u64 {
+    match find(b"open closed", second) {
+        0 => WINDOW_SWITCH,
+        1 => WINDOW_CLOSED,
+        _ => WINDOW,
+    }
+}
+
 // The form that a line begins with its first three words, of which the third may name a register.
 pub(crate) fn form_of(first: &[u8], second: &[u8], third: &[u8], register: u64) -> u64 {
     match find(
@@ -132,12 +149,12 @@ pub(crate) fn form_of(first: &[u8], second: &[u8], third: &[u8], register: u64) 
         first,
     ) {
         0 => either(second, b"read write", BUS_READ, BUS),
-        1 => either(third, b"read write", CORE_READ, CORE),
+        1 => either(third, b"read write", PRIVATE_READ, CORE),
         2 => bridge_form(either(second, b"read write", BRIDGE_READ, BRIDGE), register),
         3 => INPUT,
         4 => node_form(second),
         5 => WHICH,
-        6 => either(second, b"open closed", WINDOW_OPEN, WINDOW),
+        6 => window_form(second),
         7 => RESET,
         8 => REPLAY,
         9 => either(second, b"refused lines", EXPECT_REFUSED, EXPECT_VALUE),

@@ -32,29 +32,20 @@ pub(crate) const FAILED_REFUSED: u64 = 9;
 
 pub(crate) const FAILED_LINES: u64 = 10;
 
-// A clash: the first line for each core, whose lines are for Status, Enable and a mailbox, for the bridge (masks, message enables, a route), the gate's,
-// and the first for the node (enables, a route).
-pub(crate) const CLASH_CORE0: u64 = 11;
+// A clash, behind the name of its cell (see block.rt).
+pub(crate) const CLASH_BITS: u64 = 11;
 
-pub(crate) const CLASH_CORE1: u64 = 14;
+pub(crate) const FREE: u64 = 12;
 
-pub(crate) const CLASH_BRIDGE: u64 = 17;
-
-pub(crate) const CLASH_GATE: u64 = 20;
-
-pub(crate) const CLASH_NODE: u64 = 21;
-
-pub(crate) const FREE: u64 = 23;
-
-pub(crate) const CLASHES: u64 = 24;
+pub(crate) const CLASHES: u64 = 13;
 
 // The last line: with no expectation, and with some.
-pub(crate) const COUNTS: u64 = 25;
+pub(crate) const COUNTS: u64 = 14;
 
-pub(crate) const JUDGED: u64 = 26;
+pub(crate) const JUDGED: u64 = 15;
 
 // Before the output of a file of several.
-pub(crate) const HEADER: u64 = 27;
+pub(crate) const HEADER: u64 = 16;
 
 // The rest are of the table of put_error. A file that cannot be read or written, UNREAD and UNWRITTEN for any other reason.
 pub(crate) const NO_FILE: u64 = 1;
@@ -166,7 +157,14 @@ fn used(n: u64, mark: u8) -> u64 {
     }
 }
 
-fn put_filled(out: &mut [u8], at: usize, pattern: &[u8], values: [u64; 5], text: &[u8]) -> usize {
+// Puts a pattern with its values and its text.
+pub(crate) fn put_filled(
+    out: &mut [u8],
+    at: usize,
+    pattern: &[u8],
+    values: [u64; 5],
+    text: &[u8],
+) -> usize {
     let mut next = at;
     let mut n = 0;
     let mut i = 0;
@@ -209,18 +207,7 @@ pub(crate) fn put_line(out: &mut [u8], at: usize, n: u64, values: [u64; 5], text
 # FAILED expected refused # got 0x$
 # FAILED expected refused # got refused #
 # FAILED expected lines & got lines &
-# clash # # core0.Status~ 0x$
-# clash # # core0.Enable~ 0x$
-# clash # # core0.MailBox# 0x$
-# clash # # core1.Status~ 0x$
-# clash # # core1.Enable~ 0x$
-# clash # # core1.MailBox# 0x$
-# clash # # INT_MASK~ 0x$
-# clash # # MSI_EN~ 0x$
-# clash # # ROUTE_ENTRY # 0x$
-# clash # # gate~ 0x$
-# clash # # Inten~ 0x$
-# clash # # Entry # 0x$
+ 0x$
 # free #
 # clashes~ #
 # steps, # refused, # errors

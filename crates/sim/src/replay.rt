@@ -35,7 +35,7 @@ fn at_fault(device: Device, error: u64, word: usize) -> Replay {
 
 // Replays a capture into a buffer, and writes the dump of one that is accepted to a file.
 fn replay_into(device: Device, text: &[u8], to: &[u8], dump: &mut [u8; 3145728]) -> Replay {
-    let replayed = capture::replay(device, text, dump, 0);
+    let replayed = capture_reader::replay_text(device, text, dump, 0);
     let outcome = replayed.outcome;
     let refusal = outcome.number();
     if refusal == 0 {

@@ -42,8 +42,8 @@ use crate::print::put_line_error;
 use crate::replay::replay_file;
 use answers::Outcome;
 use device::Device;
-use script::BUS_READ;
-use script::RESET;
+use numbered::BUS_READ;
+use script::WINDOW_CLOSED;
 use script::clash_count;
 use script::step_of;
 
@@ -291,7 +291,7 @@ impl Run {
     // Why a line cannot stand where it does.
     fn place_error(self, values: [u64; 7]) -> u64 {
         match values[0] {
-            BUS_READ..=RESET => self.step_error(values),
+            BUS_READ..=WINDOW_CLOSED => self.step_error(values),
             REPLAY => line_for(self.begin, NONE, UNLISTED),
             EXPECT_VALUE..=EXPECT_LINES => expect_error(self.begin, self.steps, self.after_error),
             REORDER_BEGIN => line_for(self.begin, NONE, NESTED),
@@ -317,7 +317,7 @@ impl Run {
         out: &mut [u8],
     ) -> Run {
         match values[0] {
-            BUS_READ..=RESET => self.step_or_keep(values, block, out),
+            BUS_READ..=WINDOW_CLOSED => self.step_or_keep(values, block, out),
             REPLAY => self.replay(s, out),
             EXPECT_VALUE..=EXPECT_LINES => self.expect(values[0], wanted(values), out),
             REORDER_BEGIN => self.begin_block(),

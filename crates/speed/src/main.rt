@@ -5,11 +5,14 @@ mod mix;
 use access::refusal_number;
 use answers::Answer;
 use answers::Outcome;
+use bridge::Bridge;
 use cores::Core;
 use device::Device;
 use libc::STDOUT_FILENO;
-use pins::Node;
-use sources::Bridge;
+use node::Node;
+use numbered::RESET;
+use numbered::WINDOW_SWITCH;
+use numbered::step_of;
 use steps::Step;
 
 // The next draw of the xorshift.
@@ -19,68 +22,21 @@ fn drawn(x: u64) -> u64 {
     b ^ (b << 17)
 }
 
-fn access_of(kind: u64, unit: u64, place: u64, width: u64, value: u64) -> Step {
-    match kind {
-        0 => Step::BusRead {
-            address: place,
-            width: width,
-        },
-        1 => Step::BusWrite {
-            address: place,
-            width: width,
-            value: value,
-        },
-        2 => Step::PrivateRead {
-            core: unit,
-            offset: place,
-            width: width,
-        },
-        _ => Step::PrivateWrite {
-            core: unit,
-            offset: place,
-            width: width,
-            value: value,
-        },
-    }
-}
-
-fn step_of(kind: u64, unit: u64, place: u64, width: u64, value: u64) -> Step {
-    match kind {
-        4 => Step::BridgeRead {
-            register: bridge::numbered(unit, place),
-        },
-        5 => Step::BridgeWrite {
-            register: bridge::numbered(unit, place),
-            value: value,
-        },
-        6 => Step::Input {
-            source: place,
-            level: value != 0,
-        },
-        7 => Step::Window { open: value != 0 },
-        8 => {
+// The step of a row (see mix.rt) at a draw. No row of the mixes is unknown.
+fn row_step(row: [u64; 7], x: u64) -> Step {
+    let place = row[2] | ((x >> 32) & row[3]);
+    let value = ((x ^ (x << 32)) & row[5]) | row[6];
+    match row[0] {
+        WINDOW_SWITCH => Step::Window { open: value != 0 },
+        RESET => {
             if value == 0 {
                 Step::Reset
             } else {
                 Step::Window { open: true }
             }
         }
-        9 => Step::NodeInput {
-            source: place,
-            level: value != 0,
-        },
-        10 => Step::Which {
-            chip: bridge::chip_numbered(place),
-        },
-        _ => access_of(kind, unit, place, width, value),
+        _ => step_of(row[0], row[1], place, row[4], value).known_or(Step::Reset),
     }
-}
-
-// The step of a row (see mix.rt) at a draw.
-fn row_step(row: [u64; 7], x: u64) -> Step {
-    let place = row[2] | ((x >> 32) & row[3]);
-    let value = ((x ^ (x << 32)) & row[5]) | row[6];
-    step_of(row[0], row[1], place, row[4], value)
 }
 
 // The checksum with an answer: the value or the refusal number, and the twelve lines.

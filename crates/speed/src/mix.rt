@@ -7,14 +7,12 @@
 //
 //     [kind, unit, place, spread, width, and, or]
 //
-//     kind   0 bus read, 1 bus write, 2 private read, 3 private write, 4 bridge read, 5 bridge write, 6 input change, 7 window switch, 8 reset,
-//            9 node input change, 10 which source
-//     unit   the core of a private access; the register of a bridge access, 0 INT_MASK to 10 ROUTE_ENTRY in the order of 01
-//     place  the address, the offset, the source, or of kind 10 the number of INTISR_CHIP0 or INTISR_CHIP1, is place | (x >> 32 & spread)
+//     kind   of the step, by its number (crates/numbered/specs/Numbered.antt)
+//     unit   the core of a private access; the name of a bridge access, by its number there
+//     place  the address, the offset, the source, or the line that is searched, is place | (x >> 32 & spread)
 //     width  of a bus or private access
-//     value  ((x ^ x << 32) & and) | or: what is written; an input is driven high and the window opens where it is not 0.
-//            Kind 8 is a reset where it is 0, and opens the window elsewhere, so that resets are rare and the window is
-//            soon open again
+//     value  ((x ^ x << 32) & and) | or: what is written, and the level of an input. A window switch (kind 7) opens where it is not 0. A reset
+//            (kind 8) is one where it is 0, and opens the window elsewhere, so that resets are rare and the window is soon open again
 //
 // 4 rows of 64 are refused; in MESSAGES 3 are, and the second window, closed an eighth of the time, makes up the fourth. A search finds no
 // source, and is refused, in a third of the cases in SPARSE and hardly ever in DENSE.

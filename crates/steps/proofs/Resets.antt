@@ -10,12 +10,12 @@ use Rattle.windows.specs.declared.Place.the-variants.{Message, Node, Gate, Gate
 use Rattle.admission.specs.declared.Admission.{Admission}
 use Rattle.admission.specs.declared.Admission.the-variants.{Refused, At}
 use Rattle.admission.specs.Refusals.{bridgeRefusals, inputRefusals, nodeInputRefusals}
-use Rattle.bridge.specs.declared.Written.{Written}
-use Rattle.bridge.specs.declared.Written.the-variants.{Plain, Changed}
-use Rattle.bridge.specs.Registers.{writtenOf}
-use Rattle.node.specs.declared.Written as node
-use Rattle.node.specs.declared.Written.the-variants as written
-use Rattle.node.specs.Effect as nodes
+use Rattle.bridge_registers.specs.declared.Written.{Written}
+use Rattle.bridge_registers.specs.declared.Written.the-variants.{Plain, Changed}
+use Rattle.bridge_registers.specs.Registers.{writtenOf}
+use Rattle.node_registers.specs.declared.Written as node
+use Rattle.node_registers.specs.declared.Written.the-variants as written
+use Rattle.node_registers.specs.Effect as nodes
 use Rattle.steps.specs.declared.Step.{Step}
 use Rattle.steps.specs.declared.Step.the-variants as step
 use Rattle.steps.specs.declared.Plan.{Plan}
@@ -38,21 +38,21 @@ unfolding nodePlan
 node-plan (written.Plain effect) = refl
 node-plan (written.Changed c) = refl
 
-access-plan : (place : Place) (width : ℕ) (write : Bool) (value : ℕ) → resets (accessPlan place width write value) ≡ false
+access-plan : (place : Place) (target width : ℕ) (write : Bool) (value : ℕ) → resets (accessPlan place target width write value) ≡ false
 unfolding accessPlan readPlan writePlan
-access-plan (Message register core) width true value = refl
-access-plan (Node register) width true value = node-plan (nodes.writtenOf register value)
-access-plan Gate width true value = refl
-access-plan GateHigh width true value = refl
-access-plan (Message register core) width false value = refl
-access-plan (Node register) width false value = refl
-access-plan Gate width false value = refl
-access-plan GateHigh width false value = refl
+access-plan (Message register core) target width true value = refl
+access-plan (Node register) target width true value = node-plan (nodes.writtenOf register value)
+access-plan Gate target width true value = refl
+access-plan GateHigh target width true value = refl
+access-plan (Message register core) target width false value = refl
+access-plan (Node register) target width false value = refl
+access-plan Gate target width false value = refl
+access-plan GateHigh target width false value = refl
 
 admitted-plan : (a : Admission) (width : ℕ) (write : Bool) (value : ℕ) → resets (admittedPlan a width write value) ≡ false
 unfolding admittedPlan
 admitted-plan (Refused reason) width write value = refl
-admitted-plan (At place) width write value = access-plan place width write value
+admitted-plan (At place target) width write value = access-plan place target width write value
 
 written-plan : (w : Written) → resets (writtenPlan w) ≡ false
 unfolding writtenPlan

@@ -1,6 +1,7 @@
 -- What a step does, from the step and the window switch alone (01, "Kinds of step" and "Refusal numbers"): the first of 1 to 8
 -- that applies, or a plan.
 --   readPlan, writePlan, accessPlan                     what an accepted bus or private access does
+--   nodePlan, writtenPlan                               a plain write or another change
 --   windowPlan, bridgePlan, inputPlan, nodeInputPlan, whichPlan    what becomes of each kind of step
 --   decideOf                                            the plan of a step
 use Prim.Native.Nat.{ℕ}
@@ -8,7 +9,7 @@ use mathlib.Core.Bool.{Bool, true, false, cond}
 use Rattle.access.specs.declared.Verdict.{Verdict}
 use Rattle.access.specs.declared.Verdict.the-variants as verdict
 use Rattle.access.specs.Refusal.{firstOf}
-use Rattle.ipi.specs.Effect.{effectOf, targetOf}
+use Rattle.ipi_registers.specs.Effect.{effectOf}
 use Rattle.windows.specs.declared.Window.the-variants.{Private}
 use Rattle.windows.specs.declared.Address.{Address}
 use Rattle.windows.specs.declared.Place.{Place}
@@ -17,14 +18,14 @@ use Rattle.windows.specs.Table.{address, busAddress}
 use Rattle.admission.specs.declared.Admission.{Admission}
 use Rattle.admission.specs.declared.Admission.the-variants.{Refused, At}
 use Rattle.admission.specs.Refusals.{admissionOf, bridgeRefusals, inputRefusals, nodeInputRefusals}
-use Rattle.bridge.specs.declared.Chip.{Chip}
-use Rattle.bridge.specs.declared.Register.{Register}
-use Rattle.bridge.specs.declared.Written.{Written}
-use Rattle.bridge.specs.declared.Written.the-variants.{Plain, Changed}
-use Rattle.bridge.specs.Registers.{writtenOf}
-use Rattle.node.specs.declared.Written as node
-use Rattle.node.specs.declared.Written.the-variants as written
-use Rattle.node.specs.Effect as nodes
+use Rattle.bridge_registers.specs.declared.Chip.{Chip}
+use Rattle.bridge_registers.specs.declared.Register.{Register}
+use Rattle.bridge_registers.specs.declared.Written.{Written}
+use Rattle.bridge_registers.specs.declared.Written.the-variants.{Plain, Changed}
+use Rattle.bridge_registers.specs.Registers.{writtenOf}
+use Rattle.node_registers.specs.declared.Written as node
+use Rattle.node_registers.specs.declared.Written.the-variants as written
+use Rattle.node_registers.specs.Effect as nodes
 use Rattle.tree.specs.declared.Read.the-variants as read
 use Rattle.tree.specs.declared.Write.the-variants as write
 use Rattle.tree.specs.declared.Change.the-variants as change
@@ -47,20 +48,21 @@ unfoldable pub nodePlan : node.Written → Plan
 nodePlan (written.Plain effect) = WriteTree (write.Node effect)
 nodePlan (written.Changed c) = ChangeTree (change.Node c)
 
-unfoldable pub writePlan : Place → ℕ → ℕ → Plan
-writePlan (Message register core) width value = WriteCore (effectOf register width value) (targetOf register core value)
-writePlan (Node register) width value = nodePlan (nodes.writtenOf register value)
-writePlan Gate width value = WriteTree (gateWritten false width value)
-writePlan GateHigh width value = WriteTree (gateWritten true width value)
+-- the cells of a message register are those of the core that the write reaches (`targetAt`): of a send, its target
+unfoldable pub writePlan : Place → ℕ → ℕ → ℕ → Plan
+writePlan (Message register core) target width value = WriteCore (effectOf register width value) target
+writePlan (Node register) target width value = nodePlan (nodes.writtenOf register value)
+writePlan Gate target width value = WriteTree (gateWritten false width value)
+writePlan GateHigh target width value = WriteTree (gateWritten true width value)
 
-unfoldable pub accessPlan : Place → ℕ → Bool → ℕ → Plan
-accessPlan place width true value = writePlan place width value
-accessPlan place width false value = readPlan place width
+unfoldable pub accessPlan : Place → ℕ → ℕ → Bool → ℕ → Plan
+accessPlan place target width true value = writePlan place target width value
+accessPlan place target width false value = readPlan place width
 
 -- an access that was judged: its refusal, or what it does
 unfoldable pub admittedPlan : Admission → ℕ → Bool → ℕ → Plan
 admittedPlan (Refused reason) width write value = Refuse reason
-admittedPlan (At place) width write value = accessPlan place width write value
+admittedPlan (At place target) width write value = accessPlan place target width write value
 
 abbrev pub windowPlan : Bool → Address → ℕ → Bool → ℕ → Plan
 windowPlan opened a width write value = admittedPlan (admissionOf a opened width write value) width write value

@@ -4,7 +4,7 @@ use mathlib.Core.Path.{_≡_, refl}
 use mathlib.Core.Bool.{true, false}
 use mathlib.Core.List.{List, [], _∷_, map}
 use Rattle.text.specs.declared.Span.{Span}
-use Rattle.text.specs.Tokens.{kindOf, run, past, startOf, tokenOf, sameOf, shown, printableOf}
+use Rattle.text.specs.Tokens.{run, past, tokenBy, blank, ends, tokenOf, sameOf, shown, printableOf}
 use Rattle.text.specs.Buffers.{fits, putOf, endOf}
 
 -- ` ab<tab>c#d`
@@ -16,7 +16,7 @@ span start end = record { start = start; end = end }
 
 -- The token at or after each of these places: `ab`, `b`, `c`, none at the `#`, none past the end.
 tokens : map (tokenOf line) (0 ∷ 2 ∷ 3 ∷ 5 ∷ 9 ∷ []) ≡ span 1 3 ∷ span 2 3 ∷ span 4 5 ∷ span 5 5 ∷ span 7 7 ∷ []
-unfolding tokenOf startOf past run kindOf line
+unfolding tokenOf tokenBy past run blank ends line
 tokens = refl
 
 -- `ab` against `ab`, `ac`, `a` and `abc`

@@ -1,39 +1,54 @@
-// Text of step scripts, as byte slices: tokens of a line, tests of a text, text put into a buffer.
+// Texts as byte slices: tokens, tests of a text, text put into a buffer.
 ghost use mathlib.Core.Path.{_≡_};
+ghost use mathlib.Core.Bool.{cond, not};
 ghost use Prim.Native.Nat.{_≤_, min};
 ghost use lib.ListN.{drop};
+ghost use Rattle.bits.specs.Bits.{bit};
 ghost use Rattle.numbers.specs.Printed.{hexOf, decimalOf};
-ghost use Rattle.text.specs.Tokens.{kindOf, past, tokenOf, sameOf, shown as shownOf, printableOf};
+ghost use Rattle.text.specs.Tokens.{past, tokenBy, tokenOf, sameOf, shown as shownOf, printableOf};
 ghost use Rattle.text.specs.Buffers.{Put};
 
-// A part of a line, from its start to before its end.
+// A part of a text, from its start to before its end.
 pub struct Span {
     pub start: usize,
     pub end: usize,
 }
 
+// Bytes of a line as sets of bits: the space and the tab; and with them the `#`, which begins a comment.
+const BLANKS: u64 = 0x1_0000_0200;
+
+const ENDS: u64 = 0x9_0000_0200;
+
 // The next token of a line at or after a place; an empty span where there is none.
 pub fn token(s: &[u8], from: usize) -> Span
     ensures { λ r. ⌜ r ≡ tokenOf (now (s .entry)) from ⌝ }
 {
-    let start = skip(s, least(from, s.len()), 0);
-    let end = skip(s, start, 2);
-    Span { start, end }
+    token_by(s, least(from, s.len()), BLANKS, ENDS)
 }
 
-fn least(a: usize, b: usize) -> usize
+// The lesser of two.
+pub fn least(a: usize, b: usize) -> usize
     ensures { λ r. ⌜ r ≡ min a b ⌝ }
 {
     if a < b { a } else { b }
 }
 
-// The place past the bytes of a kind that stand from a place on.
-fn skip(s: &[u8], from: usize, wanted: u8) -> usize
-    ensures { λ r. ⌜ r ≡ past wanted (now (s .entry)) from ⌝ }
+// The next token at or after a place: past the bytes of one set, and up to the next byte of another. Bit c of a set is byte c; a byte above 63 is in none.
+pub fn token_by(s: &[u8], from: usize, blanks: u64, ends: u64) -> Span
+    ensures { λ r. ⌜ r ≡ tokenBy (bit blanks) (bit ends) (now (s .entry)) from ⌝ }
+{
+    let start = skip(s, from, blanks, true);
+    let end = skip(s, start, ends, false);
+    Span { start, end }
+}
+
+// The place past the bytes from a place on that are all in a set, or all not.
+fn skip(s: &[u8], from: usize, set: u64, inside: bool) -> usize
+    ensures { λ r. ⌜ r ≡ past (cond inside (bit set) (λ c. not (bit set c))) (now (s .entry)) from ⌝ }
 {
     let mut i = from;
     while i < s.len() {
-        if kind(s[i]) != wanted {
+        if within(set, s[i]) != inside {
             return i;
         }
         i += 1;
@@ -41,17 +56,10 @@ fn skip(s: &[u8], from: usize, wanted: u8) -> usize
     i
 }
 
-// What a byte is to a line: 0 a blank, 1 the beginning of a comment, 2 a byte of a token.
-fn kind(c: u8) -> u8
-    ensures { λ r. ⌜ r ≡ kindOf c ⌝ }
+fn within(set: u64, c: u8) -> bool
+    ensures { λ r. ⌜ r ≡ bit set c ⌝ }
 {
-    if c == b' ' {
-        return 0;
-    }
-    if c == b'\t' {
-        return 0;
-    }
-    if c == b'#' { 1 } else { 2 }
+    bits::test(set, c as u64)
 }
 
 // Whether two texts are equal.

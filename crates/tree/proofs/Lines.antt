@@ -4,7 +4,7 @@ use mathlib.Core.Path.{_≡_, sym, ap}
 use mathlib.Core.Bool.{Bool, true, false, _&&_}
 use Rattle.bits.specs.Bits.{bit, word}
 use Rattle.bits.proofs.Words.{bit-word, word-cong}
-use Rattle.sources.specs.Sources as sources
+use Rattle.bridge.specs.Sources as bridge
 use Rattle.tree.specs.declared.Tree.{Tree}
 use Rattle.tree.specs.Tree.{bridgeLine, linesOf}
 
@@ -13,10 +13,10 @@ module _ (t : Tree) where
   unfolding linesOf
   line-bit k h = bit-word 2 (bridgeLine t) k h
 
-  pub lines-open : t .gate ≡ true → sources.linesOf (t .bridge) ≡ linesOf t
-  unfolding linesOf sources.linesOf
-  lines-open g = word-cong 2 (λ k h. ap (λ (gate : Bool). gate && sources.lineOf (t .bridge) k) (sym g))
+  pub lines-open : t .gate ≡ true → bridge.linesOf (t .bridge) ≡ linesOf t
+  unfolding linesOf bridge.linesOf
+  lines-open g = word-cong 2 (λ k h. ap (λ (gate : Bool). gate && bridge.lineOf (t .bridge) k) (sym g))
 
   pub lines-closed : t .gate ≡ false → 0 ≡ linesOf t
   unfolding linesOf word
-  lines-closed g = ap (λ (gate : Bool). word 2 (λ k. gate && sources.lineOf (t .bridge) k)) (sym g)
+  lines-closed g = ap (λ (gate : Bool). word 2 (λ k. gate && bridge.lineOf (t .bridge) k)) (sym g)

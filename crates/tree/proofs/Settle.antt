@@ -10,24 +10,25 @@ use Rattle.bits.specs.Bits.{bit}
 use Rattle.bits.specs.Latch.{cleared, latched, rises, risen}
 use Rattle.bits.proofs.Taut.{taut}
 use Rattle.bits.proofs.Words.{below, bit-mod, bit-zero, word-cong}
-use Rattle.pins.specs.declared.Node.{Node}
-use Rattle.pins.specs.Pins.{driveWord}
-use Rattle.pins.specs.Changes as nodes
-use Rattle.pins.proofs.Drive.{drive-level, drive-line}
+use Rattle.node.specs.declared.Node.{Node}
+use Rattle.node.specs.Cells.{withLatch}
+use Rattle.node.specs.Sources.{driveWord}
+use Rattle.node.specs.Changes as nodes
+use Rattle.node.proofs.Drive.{drive-level, drive-line}
 use Rattle.tree.specs.declared.Tree.{Tree}
 use Rattle.tree.specs.declared.Act.{Act}
 use Rattle.tree.specs.declared.Act.the-variants as act
 use Rattle.tree.specs.declared.Write.the-variants as write
 use Rattle.tree.specs.declared.Change.the-variants as change
-use Rattle.tree.specs.Tree.{actedOf, changedOf, driveOf, linesOf, movedOf, settledOf, withNode, writtenOf}
-use Rattle.tree.specs.Private.{watchedOf}
+use Rattle.tree.specs.Tree.{actedOf, appliedOf, linesOf, movedOf, settledOf, unsettledOf, withNode}
+use Rattle.tree.specs.Private.{watchedBefore, watchedOf, watchedSettled}
 
 -- ---- the edge choices stay, or the lines do
 
-moved-apart : (t : Tree) (a : Act) → (movedOf t a .node .edge ≡ t .node .edge) ⊎ (linesOf (movedOf t a) ≡ linesOf t)
-unfolding movedOf writtenOf changedOf linesOf
+moved-apart : (t : Tree) (a : Act) → (unsettledOf t a .node .edge ≡ t .node .edge) ⊎ (linesOf (unsettledOf t a) ≡ linesOf t)
+unfolding unsettledOf appliedOf movedOf linesOf
 moved-apart t (act.Write (write.Bridge e)) = inl refl
-moved-apart t (act.Write (write.Gate written on)) = inl refl
+moved-apart t (act.Write (write.Gate mask value)) = inl refl
 moved-apart t (act.Write (write.Node e)) = inr refl
 moved-apart t (act.Change (change.Bridge c)) = inl refl
 moved-apart t (act.Change (change.Input level i)) = inl refl
@@ -67,11 +68,11 @@ no-edge edge i e h = sym (bit-mod 2 edge i h) ∙ rw e (bit-zero i)
 
 module _ (t : Tree) (a : Act) where
   abbrev after : Tree
-  after = movedOf t a
+  after = unsettledOf t a
 
   unwatched : t .node .edge % 4 ≡ 0
       → latched 32 (t .node .edge) (after .node .edge) (driveWord (t .node) 0) (driveWord (after .node) 0) (after .node .latch)
-      ≡ latched 32 (t .node .edge) (after .node .edge) (driveOf t) (driveOf after) (after .node .latch)
+      ≡ latched 32 (t .node .edge) (after .node .edge) (driveWord (t .node) (linesOf t)) (driveWord (after .node) (linesOf after)) (after .node .latch)
   unfolding latched
   unwatched e =
       sym
@@ -80,9 +81,9 @@ module _ (t : Tree) (a : Act) where
       ⊎-elim (λ (q : after .node .edge ≡ t .node .edge). inl (rw q (no-edge (t .node .edge) i e h))) (λ (q : linesOf after ≡ linesOf t). inr (ap (λ (l : ℕ). bit l i) (sym q)))
       (moved-apart t a)))
 
-  pub acted-by : withNode after (nodes.settledOf (after .node) (t .node .edge) (watchedOf t (t .node .edge)) (watchedOf after (t .node .edge))) ≡ actedOf t a
+  pub acted-by : watchedSettled (watchedBefore t) after ≡ actedOf t a
   unfolding actedOf settledOf nodes.settledOf
   acted-by =
       cases (eqb (t .node .edge % 4) 0)
-      (λ q. rw q (ap (λ (l : ℕ). withNode after (nodes.withDrive (after .node) (after .node .edge) l (after .node .level))) (unwatched (eqb-true _ 0 q))))
+      (λ q. rw q (ap (λ (l : ℕ). withNode after (withLatch (after .node) l)) (unwatched (eqb-true _ 0 q))))
       (λ q. rw q)

@@ -1,14 +1,14 @@
 // The interrupt tree from the sources to the cores' pins: the bridge, the gate behind it, and the node. A block that joins the tree adds a
-// field, and a case to each of the three enums.
+// field, and a case to each of `Read`, `Write` and `Change`.
 ghost use mathlib.Core.Path.{_≡_};
-ghost use Rattle.pins.specs.Changes as nodes;
-ghost use Rattle.sources.specs.Sources.{whichOf};
-ghost use Rattle.tree.specs.Tree.{actedOf, changedOf, freshOf, gateRead, gateWeight, gateWritten, linesOf, movedOf, readOf, resetOf, withBridge, withGate, withLevels, withNode, writtenOf};
-ghost use Rattle.tree.specs.Private.{watchedOf};
+ghost use Rattle.node.specs.Sources as nodes;
+ghost use Rattle.bridge.specs.Sources.{whichOf};
+ghost use Rattle.tree.specs.Tree.{actedOf, appliedOf, freshOf, gateRead, gateWeight, gateWritten, linesOf, movedOf, readOf, resetOf, unsettledOf, withBridge, withGate, withLevels, withNode};
+ghost use Rattle.tree.specs.Private.{watchedBefore, watchedOf, watchedSettled};
 use answers::Outcome;
-use bridge::Chip;
-use pins::Node;
-use sources::Bridge;
+use bridge::Bridge;
+use bridge_registers::Chip;
+use node::Node;
 
 pub struct Tree {
     pub bridge: Bridge,
@@ -18,24 +18,24 @@ pub struct Tree {
 
 // What is read: a register of the bridge or of the node, the gate in its word or in the high half of that, or which source of the bridge it is.
 pub enum Read {
-    Bridge(bridge::Register),
+    Bridge(bridge_registers::Register),
     Gate { high: bool, width: u64 },
-    Node(node::Register),
+    Node(node_registers::Register),
     Which(Chip),
 }
 
-// What a plain write does: bits of a cell of the bridge or of the node take values, or the gate does where the write reaches it.
+// What a plain write does: bits of a cell of the bridge or of the node take values, or the gate does, which is a cell of one bit.
 pub enum Write {
-    Bridge(bridge::Effect),
-    Gate { written: bool, on: bool },
-    Node(node::Effect),
+    Bridge(bridge_registers::Effect),
+    Gate { mask: bool, bit: bool },
+    Node(node_registers::Effect),
 }
 
 // What any other accepted step does.
 pub enum Change {
-    Bridge(bridge::Change),
+    Bridge(bridge_registers::Change),
     Input { level: bool, source: u64 },
-    Node(node::Change),
+    Node(node_registers::Change),
     NodeInput { level: bool, source: u64 },
 }
 
@@ -43,6 +43,11 @@ pub enum Change {
 pub enum Act {
     Write(Write),
     Change(Change),
+}
+
+// What settling needs of the tree before an act.
+pub struct Before {
+    pub node: node::Before,
 }
 
 // The gate shown as the bit that `weight` has.
@@ -68,13 +73,13 @@ pub fn gate_written(high: bool, width: u64, value: u64) -> Write
 {
     if high {
         return Write::Gate {
-            written: true,
-            on: bits::test(value, 16),
+            mask: true,
+            bit: bits::test(value, 16),
         };
     }
     Write::Gate {
-        written: width == 8,
-        on: bits::test(value, 48),
+        mask: width == 8,
+        bit: bits::test(value, 48),
     }
 }
 
@@ -152,12 +157,10 @@ impl Tree {
         self
     }
 
-    fn with_gate(mut self, written: bool, on: bool) -> Tree
-        ensures { λ r. ⌜ r ≡ withGate self written on ⌝ }
+    fn with_gate(mut self, gate: bool) -> Tree
+        ensures { λ r. ⌜ r ≡ withGate self gate ⌝ }
     {
-        if written {
-            self.gate = on;
-        }
+        self.gate = gate;
         self
     }
 
@@ -168,39 +171,40 @@ impl Tree {
         self
     }
 
-    // The tree after a plain write, before it settles.
-    fn written(self, write: Write) -> Tree
-        ensures { λ r. ⌜ r ≡ writtenOf self write ⌝ }
+    // What a plain write itself moves.
+    fn applied(self, write: Write) -> Tree
+        ensures { λ r. ⌜ r ≡ appliedOf self write ⌝ }
     {
         let b = self.bridge;
         let n = self.node;
         match write {
             Write::Bridge(effect) => self.with_bridge(b.applied(effect)),
-            Write::Gate { written, on } => self.with_gate(written, on),
+            Write::Gate { mask, bit } => self.with_gate(bits::merge1(self.gate, mask, bit)),
             Write::Node(effect) => self.with_node(n.applied(effect)),
         }
     }
 
-    // The tree after any other change, before it settles.
-    fn changed(self, change: Change) -> Tree
-        ensures { λ r. ⌜ r ≡ changedOf self change ⌝ }
+    // What any other change itself moves; the bridge's own cells have settled.
+    fn moved(self, change: Change) -> Tree
+        ensures { λ r. ⌜ r ≡ movedOf self change ⌝ }
     {
         let b = self.bridge;
         let n = self.node;
         match change {
             Change::Bridge(change) => self.with_bridge(b.changed(change)),
             Change::Input { level, source } => self.with_bridge(b.input(source, level)),
-            Change::Node(change) => self.with_node(n.changed(change)),
-            Change::NodeInput { level, source } => self.with_node(n.input(source, level)),
+            Change::Node(change) => self.with_node(n.moved(change)),
+            Change::NodeInput { level, source } => self.with_node(n.levelled(source, level)),
         }
     }
 
-    fn moved(self, act: Act) -> Tree
-        ensures { λ r. ⌜ r ≡ movedOf self act ⌝ }
+    // The tree after an act, before it settles.
+    fn unsettled(self, act: Act) -> Tree
+        ensures { λ r. ⌜ r ≡ unsettledOf self act ⌝ }
     {
         match act {
-            Act::Write(write) => self.written(write),
-            Act::Change(change) => self.changed(change),
+            Act::Write(write) => self.applied(write),
+            Act::Change(change) => self.moved(change),
         }
     }
 
@@ -215,31 +219,47 @@ impl Tree {
         0
     }
 
-    // The node's drives. The bridge's lines are looked at only where a rise of one could be latched.
-    fn watched(self, edge: u32) -> u32
+    // The lines to the pins, where the bridge's lines are `lines`: core c and pin p as bit 4 * c + p.
+    pub fn pins(self, lines: u8) -> u8
+        ensures { λ r. ⌜ r ≡ nodes.pinsOf (self .node) lines ⌝ }
+    {
+        let n = self.node;
+        n.pins(lines)
+    }
+
+    // The bridge's lines, looked at only where a rise of one could be latched.
+    fn watched(self, edge: u32) -> u8
         ensures { λ r. ⌜ r ≡ watchedOf self edge ⌝ }
     {
-        let n = self.node;
         if edge % 4 == 0 {
-            return n.drive(0);
+            return 0;
         }
-        n.drive(self.lines())
+        self.lines()
     }
 
-    fn settled(self, edge: u32, before: u32) -> Tree
-        ensures { λ r. ⌜ r ≡ withNode self (nodes.settledOf (self .node) edge before (watchedOf self edge)) ⌝ }
+    // What settling needs of the tree before an act.
+    fn before(self) -> Before
+        ensures { λ r. ⌜ r ≡ watchedBefore self ⌝ }
     {
         let n = self.node;
-        self.with_node(n.settled(edge, before, self.watched(edge)))
+        Before {
+            node: n.before(self.watched(n.edge)),
+        }
     }
 
-    // The tree after a step, and what follows from it. A change of the choices moves no line, so that those from before the step say
-    // whether the lines are looked at.
+    // What follows from an act. A change of the choices moves no line, so that those from before the act say whether the lines are looked at.
+    fn settled(self, before: Before) -> Tree
+        ensures { λ r. ⌜ r ≡ watchedSettled before self ⌝ }
+    {
+        let n = self.node;
+        let node = before.node;
+        self.with_node(n.settled(node, self.watched(node.edge)))
+    }
+
+    // The tree after an act, and what follows from it.
     pub fn acted(self, act: Act) -> Tree
         ensures { λ r. ⌜ r ≡ actedOf self act ⌝ }
     {
-        let n = self.node;
-        let before = self.watched(n.edge);
-        self.moved(act).settled(n.edge, before)
+        self.unsettled(act).settled(self.before())
     }
 }

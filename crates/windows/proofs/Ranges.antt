@@ -11,13 +11,13 @@ use borrow.Author.Tests.{le-leb, le-ltb, lt-leb, lt-ltb}
 use Rattle.access.specs.Table.{Row, based, lookup}
 use Rattle.access.proofs.Table.{filled, lookup-based, lookup-high, lookup-low, lookup-or, lookup-outside}
 use Rattle.bits.proofs.Words.{below}
-use Rattle.ipi.specs.declared.Entry.{Entry}
-use Rattle.ipi.specs.declared.Found.the-variants as message
-use Rattle.ipi.specs.Table.{entryAt, sendAt, sends, table}
-use Rattle.ipi.proofs.Ranges as messages
-use Rattle.node.specs.declared.Found.the-variants as found
-use Rattle.node.specs.Table as nodes
-use Rattle.node.proofs.Ranges as node
+use Rattle.ipi_registers.specs.declared.Entry.{Entry}
+use Rattle.ipi_registers.specs.declared.Found.the-variants as message
+use Rattle.ipi_registers.specs.Table.{entryAt, sendAt, sends, table}
+use Rattle.ipi_registers.proofs.Ranges as messages
+use Rattle.node_registers.specs.declared.Found.the-variants as found
+use Rattle.node_registers.specs.Table as nodes
+use Rattle.node_registers.proofs.Ranges as node
 use Rattle.windows.specs.declared.Window.{Window}
 use Rattle.windows.specs.declared.Window.the-variants.{First, Second, Private}
 use Rattle.windows.specs.declared.Located.{Located}
@@ -81,7 +81,7 @@ private-alone core o = ap (λ (l : Located). cond (eqb o 0x1010) (onNode (nodes.
 alone-past : (w : Window) (o : ℕ) → 0x1400 ≤ o → aloneAt w o ≡ Nowhere
 unfolding aloneAt aloneIn sends
 alone-past First o h = lookup-outside 0x0420 0x1400 o (inr h) Nowhere (aloneIn First) tt
-alone-past Second o h = refl
+alone-past Second o h = lookup-outside 0x0420 0x1400 o (inr h) Nowhere (aloneIn Second) tt
 alone-past (Private core) o h = lookup-outside 0x1010 0x1400 o (inr h) Nowhere (aloneIn (Private core)) tt
 
 -- ---- and the node's registers

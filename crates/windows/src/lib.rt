@@ -22,8 +22,11 @@ pub struct Address {
 // What an offset in a window names: a message register of a core, a register of the node, or the word that holds the gate and its high half.
 // The register stands first: so the cases lie alike in memory.
 pub enum Place {
-    Message { register: ipi::Register, core: u64 },
-    Node(node::Register),
+    Message {
+        register: ipi_registers::Register,
+        core: u64,
+    },
+    Node(node_registers::Register),
     Gate,
     GateHigh,
 }
@@ -68,12 +71,12 @@ pub fn is_second(window: Window) -> bool
 }
 
 // A core's register.
-fn on_core(core: u64, found: ipi::Found) -> Located
+fn on_core(core: u64, found: ipi_registers::Found) -> Located
     ensures { λ r. ⌜ r ≡ onCore core found ⌝ }
 {
     match found {
-        ipi::Found::Nothing => Located::Nowhere,
-        ipi::Found::At(entry) => {
+        ipi_registers::Found::Nothing => Located::Nowhere,
+        ipi_registers::Found::At(entry) => {
             let register = entry.register;
             let access = entry.access;
             Located::At {
@@ -88,12 +91,12 @@ fn on_core(core: u64, found: ipi::Found) -> Located
 }
 
 // A register of the node.
-fn on_node(found: node::Found) -> Located
+fn on_node(found: node_registers::Found) -> Located
     ensures { λ r. ⌜ r ≡ onNode found ⌝ }
 {
     match found {
-        node::Found::Nothing => Located::Nowhere,
-        node::Found::At { register, access } => Located::At {
+        node_registers::Found::Nothing => Located::Nowhere,
+        node_registers::Found::At { register, access } => Located::At {
             place: Place::Node(register),
             access: access,
         },
@@ -169,8 +172,8 @@ fn private_alone(core: u64, offset: u64) -> Located
     ensures { λ r. ⌜ r ≡ aloneAt (Window.Private core) offset ⌝ }
 {
     match offset {
-        0x1010 => on_node(node::per_core(core)),
-        _ => on_core(core, ipi::send_at(offset)),
+        0x1010 => on_node(node_registers::per_core(core)),
+        _ => on_core(core, ipi_registers::send_at(offset)),
     }
 }
 
@@ -191,7 +194,7 @@ fn beside(window: Window, offset: u64) -> Located
     if offset < 0x1400 {
         alone(window, offset)
     } else {
-        on_node(node::entry_at(offset))
+        on_node(node_registers::entry_at(offset))
     }
 }
 
@@ -201,8 +204,11 @@ pub fn locate(address: Address) -> Located
 {
     let window = address.window;
     let offset = address.offset;
-    match ipi::entry_at(own_offset(window, offset)) {
-        ipi::Found::Nothing => beside(window, offset),
-        ipi::Found::At(entry) => on_core(core_in(window, offset), ipi::Found::At(entry)),
+    match ipi_registers::entry_at(own_offset(window, offset)) {
+        ipi_registers::Found::Nothing => beside(window, offset),
+        ipi_registers::Found::At(entry) => on_core(
+            core_in(window, offset),
+            ipi_registers::Found::At(entry),
+        ),
     }
 }

@@ -14,8 +14,9 @@ admitted-spec =
     (λ c κs. search needs)  -- judge-requires
     (λ c. search needs)  -- enum-known-refusal
     (λ c. search needs)  -- enum-told
+    (λ c κs. search needs)  -- target-requires
     (λ c κs. search needs)  -- sent-past-requires
-    (λ c. search (tests, c .if2 .taken, ← c .before .sent-past .ensures, c .before .before .enum-told .given .1, ← c .before .before .before .before .judge .ensures, c .before .before .before .before .before .if1 .left, ← c .before .before .before .before .before .before .closed .ensures))  -- returns-2
+    (λ c. search (tests, c .if2 .taken, ← c .before .sent-past .ensures, ← c .before .before .target .ensures, c .before .before .before .enum-told .given .1, ← c .before .before .before .before .before .judge .ensures, c .before .before .before .before .before .before .if1 .left, ← c .before .before .before .before .before .before .before .closed .ensures))  -- returns-2
     (λ c. search (tests, c .before .refusal .given .1, ← c .before .before .before .judge .ensures, c .before .before .before .before .if1 .left, ← c .before .before .before .before .before .closed .ensures))  -- returns-3
-    (λ c. search (tests, c .if2 .left, ← c .before .sent-past .ensures, c .before .before .enum-told .given .1, ← c .before .before .before .before .judge .ensures, c .before .before .before .before .before .if1 .left, ← c .before .before .before .before .before .before .closed .ensures))  -- returns-4
+    (λ c. search (tests, c .if2 .left, ← c .before .sent-past .ensures, ← c .before .before .target .ensures, c .before .before .before .enum-told .given .1, ← c .before .before .before .before .before .judge .ensures, c .before .before .before .before .before .before .if1 .left, ← c .before .before .before .before .before .before .before .closed .ensures))  -- returns-4
     )

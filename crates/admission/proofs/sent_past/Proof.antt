@@ -10,8 +10,7 @@ sent-past-spec =
     (λ c. search needs)  -- enum-told
     (λ c. search needs)  -- enum-told-2
     (λ c. search needs)  -- enum-told-3
-    (λ c κs. search needs)  -- target-requires
     (λ c. search needs)  -- returns
     (λ c. search needs)  -- returns-2
-    (λ c. search (tests, ← c .target .ensures, c .before .enum-told3 .given .1))  -- returns-3
+    (λ c. search (tests, c .enum-told3 .given .1))  -- returns-3
     )

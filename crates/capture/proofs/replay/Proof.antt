@@ -38,10 +38,10 @@ replay-spec =
     replay-good (a .d) (a .s .now) (a .out .now) (a .used) (n .result) (n .ensures .0) (sym (c .before .before .before .before .before .before .before .before .before .before .at-command .ensures) ∙ c .before .before .before .before .before .before .before .before .before .if1 .taken) (c .before .before .before .before .before .before .before .before .least .result) (c .before .before .before .before .before .before .before .before .least .ensures)
     _ (λ x. table-look (a .s .now) x _ _ (n .ensures .1 .1 .0) (n .ensures .1 .1 .1)) _ (n .ensures .1 .0) (c .before .before .before .before .replay-rest .result) _ (c .before .before .before .before .replay-rest .ensures))  -- returns
     (λ c κs. search needs)  -- bad-field-requires
-    (λ c κs. search needs)  -- either-requires
+    (λ c κs. search needs)  -- choose-requires
     (λ c.
     let a = c .before .before .before .before .before .before .before .before .before .before .before .before .args in
     let n = c .before .before .before .before .before .before .before .index in
-    replay-bad (a .d) (a .s .now) (a .out .now) (a .used) (n .result) (n .ensures .0) (sym (c .before .before .before .at-command .ensures) ∙ c .before .before .if1 .left) (c .either .result)
-    (c .either .ensures ∙ ap (λ (t : Bool). cond t (n .result .head .place) (length (a .s .now))) (c .before .bad-field .ensures)))  -- returns-2
+    replay-bad (a .d) (a .s .now) (a .out .now) (a .used) (n .result) (n .ensures .0) (sym (c .before .before .before .at-command .ensures) ∙ c .before .before .if1 .left) (c .choose .result)
+    (c .choose .ensures ∙ ap (λ (t : Bool). cond t (n .result .head .place) (length (a .s .now))) (c .before .bad-field .ensures)))  -- returns-2
     )

@@ -41,12 +41,12 @@ use denote.Triple.Walked.{says, Stays, stay-none, walkOf, goes-none, Walks, ends
 use denote.Exit.{yes}
 use denote.Triple.Clauses.{ensured, lasts}
 use Rattle.capture_tokens.specs.Tokens.{tokenOf}
-use Rattle.capture_tokens.specs.declared.Span.{Span}
+use Rattle.text.specs.declared.Span.{Span}
 use Rattle.capture_reader.specs.declared.Reader.{Reader}
 use Rattle.capture_reader.proofs.Reader as T
 use Rattle.capture_reader.proofs.Reader.Laws as T′
-use Rattle.capture_tokens.proofs.Span as S
-use Rattle.capture_tokens.proofs.Span.Laws as S′
+use Rattle.text.proofs.Span as S
+use Rattle.text.proofs.Span.Laws as S′
 use Rattle.capture_tokens.proofs.token as token
 use Rattle.capture_tokens.proofs.token.Symbol as token-def
 use Rattle.capture_tokens.proofs.token.Symbol.{name as #capture_tokens·token}

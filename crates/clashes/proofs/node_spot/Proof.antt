@@ -8,11 +8,9 @@ node-spot-spec =
     tie.close
     (tie.spec
     (λ c. search needs)  -- enum-told
-    (λ c κs. search needs)  -- at-requires
+    (λ c κs. search needs)  -- one-requires
     (λ c. search needs)  -- enum-known-cell
-    (λ c. search needs)  -- add-at
-    (λ c κs. search needs)  -- bounded-requires
-    (λ c κs. search needs)  -- at-requires-2
-    (λ c. search (tests, ← c .at .ensures, c .before .enum-told .given .1))  -- returns
-    (λ c. search (tests, ← c .at2 .ensures, ← c .before .bounded .ensures, c .before .before .before .cell .given .1))  -- returns-2
+    (λ c κs. search needs)  -- one-of-requires
+    (λ c. search (tests, ← c .one .ensures, c .before .enum-told .given .1))  -- returns
+    (λ c. search (tests, ← c .one-of .ensures, c .before .before .cell .given .1))  -- returns-2
     )

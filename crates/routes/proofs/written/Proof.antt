@@ -1,4 +1,3 @@
-use Rattle.bits.proofs.Tests.{tests}
 use borrow.Author.Needs.{needs}
 use Rattle.routes.proofs.written.Statement.{statement}
 use Rattle.routes.proofs.written.Tie as tie
@@ -7,8 +6,10 @@ pub written-spec : {M : Type 1} → statement M
 written-spec =
     tie.close
     (tie.spec
-    (λ c κs. search needs)  -- route-requires
-    (λ c κs. search needs)  -- route-merge-requires
-    (λ c κs. search needs)  -- put-route-requires
-    (λ c. search (tests, ← c .put-route .ensures, ← c .before .route-merge .ensures, ← c .before .before .route .ensures))  -- returns
+    (λ c. search needs)  -- slice-aggregate-byte-at
+    (λ c κs. search needs)  -- byte-at-requires
+    (λ c. search needs)  -- slice-aggregate-put-at
+    (λ c κs. search needs)  -- merge8-requires
+    (λ c κs. search needs)  -- put-at-requires
+    (λ c. cc)  -- returns
     )

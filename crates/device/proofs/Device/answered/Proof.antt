@@ -20,6 +20,6 @@ answered-spec =
     (λ c κs. search needs)  -- test-requires-2
     (λ c.
     let p = c .before .before
-    in let t = p .before .before .before .before .before .before .before .before .args .self .tree
+    in let t = p .before .before .before .before .before .before .before .args .self .tree
     in rw (c .test2 .ensures, c .before .test .ensures, p .line2 .ensures, p .before .line .ensures, p .before .before .pins .ensures, p .before .before .before .lines .ensures, line-bit t 0 (omega arith), line-bit t 1 (omega arith)))  -- returns
     )

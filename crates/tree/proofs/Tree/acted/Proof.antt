@@ -8,8 +8,8 @@ pub acted-spec : {M : Type 1} → statement M
 acted-spec =
     tie.close
     (tie.spec
-    (λ c κs. search needs)  -- watched-requires
-    (λ c κs. search needs)  -- moved-requires
+    (λ c κs. search needs)  -- unsettled-requires
+    (λ c κs. search needs)  -- before-requires
     (λ c κs. search needs)  -- settled-requires
-    (λ c. c .settled .ensures ∙ rw (c .before .moved .ensures, c .before .before .watched .ensures) (acted-by _ _))  -- returns
+    (λ c. c .settled .ensures ∙ rw (c .before .before2 .ensures, c .before .before .unsettled .ensures) (acted-by _ _))  -- returns
     )

@@ -7,9 +7,7 @@ pub watched-spec : {M : Type 1} → statement M
 watched-spec =
     tie.close
     (tie.spec
-    (λ c κs. search needs)  -- drive-requires
-    (λ c. search (tests, ← c .drive .ensures, c .before .if1 .taken))  -- returns
+    (λ c. search (tests, c .if1 .taken))  -- returns
     (λ c κs. search needs)  -- lines-requires
-    (λ c κs. search needs)  -- drive-requires-2
-    (λ c. search (tests, ← c .drive2 .ensures, ← c .before .lines .ensures, c .before .before .if1 .left))  -- returns-2
+    (λ c. search (tests, ← c .lines .ensures, c .before .if1 .left))  -- returns-2
     )

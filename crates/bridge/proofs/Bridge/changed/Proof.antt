@@ -1,0 +1,16 @@
+use Rattle.bridge.specs.Changes.{changedOf}
+use Rattle.bits.proofs.Tests.{tests}
+use borrow.Author.Needs.{needs}
+use Rattle.bridge.proofs.Bridge.changed.Statement.{statement}
+use Rattle.bridge.proofs.Bridge.changed.Tie as tie
+
+pub changed-spec : {M : Type 1} → statement M
+unfolding changedOf
+changed-spec =
+    tie.close
+    (tie.spec
+    (λ c κs. search needs)  -- moved-requires
+    (λ c κs. search needs)  -- before-requires
+    (λ c κs. search needs)  -- settled-requires
+    (λ c. search (tests, ← c .settled .ensures, ← c .before .before2 .ensures, ← c .before .before .moved .ensures))  -- returns
+    )

@@ -1,2 +1,0 @@
-pub mod Pins
-pub mod Changes
