@@ -62,6 +62,7 @@ struct step {
 
 struct answer {
     uint64_t value;
+    uint64_t moved; // the bits that a write moved
     enum refusal refusal;
     bool ipi[2];
     bool bridge[2];
@@ -138,12 +139,13 @@ static enum refusal core_read(const struct core *c, uint64_t offset, uint64_t wi
     }
 }
 
-static enum refusal core_write(struct core *c, uint64_t offset, uint64_t width, uint64_t value)
+static enum refusal core_write(struct core *c, uint64_t offset, uint64_t width, uint64_t value, uint64_t *moved)
 {
     if (is_mail(offset)) {
         uint64_t *word = &c->mail[(offset - MAIL) / 8];
 
         if (width == 8 && offset % 8 == 0) {
+            *moved = *word ^ value;
             *word = value;
             return ACCEPTED;
         }
@@ -152,9 +154,10 @@ static enum refusal core_write(struct core *c, uint64_t offset, uint64_t width, 
         if (value > UINT32_MAX)
             return BAD_VALUE;
         if (offset % 8 == 0)
-            *word = (*word & ~(uint64_t)UINT32_MAX) | value;
+            *moved = (uint32_t)*word ^ value;
         else
-            *word = (*word & UINT32_MAX) | value << 32;
+            *moved = (*word >> 32 ^ value) << 32;
+        *word ^= *moved;
         return ACCEPTED;
     }
     if (!is_message_register(offset))
@@ -167,12 +170,15 @@ static enum refusal core_write(struct core *c, uint64_t offset, uint64_t width, 
         return BAD_VALUE;
     switch (offset) {
     case ENABLE:
+        *moved = c->enable ^ value;
         c->enable = value;
         break;
     case SET:
+        *moved = value & ~c->status;
         c->status |= value;
         break;
     case CLEAR:
+        *moved = value & c->status;
         c->status &= ~value;
         break;
     }
@@ -181,9 +187,10 @@ static enum refusal core_write(struct core *c, uint64_t offset, uint64_t width, 
 
 // The sends.
 
-static enum refusal ipi_send(struct device *d, uint64_t width, uint64_t value)
+static enum refusal ipi_send(struct device *d, uint64_t width, uint64_t value, uint64_t *moved)
 {
     uint64_t target = value >> 16 & 0x3ff;
+    uint32_t vector = 1u << (value & 31);
 
     if (width != 4)
         return BAD_WIDTH;
@@ -191,7 +198,8 @@ static enum refusal ipi_send(struct device *d, uint64_t width, uint64_t value)
         return BAD_VALUE;
     if (target > 1)
         return NO_CORE;
-    d->core[target].status |= 1u << (value & 31);
+    *moved = vector & ~d->core[target].status;
+    d->core[target].status |= vector;
     return ACCEPTED;
 }
 
@@ -207,7 +215,7 @@ static uint32_t written_bytes(unsigned mask)
     return written;
 }
 
-static enum refusal mail_send(struct device *d, uint64_t width, uint64_t value)
+static enum refusal mail_send(struct device *d, uint64_t width, uint64_t value, uint64_t *moved)
 {
     uint64_t target = value >> 16 & 0x3ff;
     unsigned half = value >> 2 & 7;
@@ -220,7 +228,8 @@ static enum refusal mail_send(struct device *d, uint64_t width, uint64_t value)
     if (target > 1)
         return NO_CORE;
     word = &d->core[target].mail[half / 2];
-    *word = (*word & ~written) | (value >> 32 << shift & written);
+    *moved = (*word ^ value >> 32 << shift) & written;
+    *word ^= *moved;
     return ACCEPTED;
 }
 
@@ -368,7 +377,7 @@ static enum refusal node_read(const struct device *d, uint64_t offset, uint64_t 
     return ACCEPTED;
 }
 
-static enum refusal node_write(struct node *n, uint64_t offset, uint64_t width, uint64_t value)
+static enum refusal node_write(struct node *n, uint64_t offset, uint64_t width, uint64_t value, uint64_t *moved)
 {
     if (!is_node_register(offset))
         return NO_REGISTER;
@@ -380,17 +389,21 @@ static enum refusal node_write(struct node *n, uint64_t offset, uint64_t width, 
         return BAD_VALUE;
     switch (offset) {
     case INTENSET:
+        *moved = value & ~n->enable;
         n->enable |= value;
         break;
     case INTENCLR: // the latch goes with the enable
+        *moved = value & n->enable;
         n->enable &= ~value;
         n->latch &= ~value;
         break;
     case INTEDGE_NODE: // a source taken from edge to level mode loses its latch
+        *moved = n->edge ^ value;
         n->latch &= ~n->edge | value;
         n->edge = value;
         break;
     default: // bits 3..2 name cores that are not there
+        *moved = n->routes[offset - ENTRY] ^ (value & 0xf3);
         n->routes[offset - ENTRY] = value & 0xf3;
         break;
     }
@@ -425,19 +438,19 @@ static enum refusal private_read(const struct device *d, const struct step *s, u
     return core_read(&d->core[s->unit], s->place, s->width, value);
 }
 
-static enum refusal private_write(struct device *d, const struct step *s)
+static enum refusal private_write(struct device *d, const struct step *s, uint64_t *moved)
 {
     if (s->unit > 1)
         return NO_CORE;
     if (s->place == IPI_SEND)
-        return ipi_send(d, s->width, s->value);
+        return ipi_send(d, s->width, s->value, moved);
     if (s->place == MAIL_SEND)
-        return mail_send(d, s->width, s->value);
+        return mail_send(d, s->width, s->value, moved);
     if (s->place == PER_CORE_INTISR)
-        return node_write(&d->node, CORE0_INTISR, s->width, s->value);
+        return node_write(&d->node, CORE0_INTISR, s->width, s->value, moved);
     if (s->place >= ENTRY)
-        return node_write(&d->node, s->place, s->width, s->value);
-    return core_write(&d->core[s->unit], s->place, s->width, s->value);
+        return node_write(&d->node, s->place, s->width, s->value, moved);
+    return core_write(&d->core[s->unit], s->place, s->width, s->value, moved);
 }
 
 // The bus windows. The gate stands in the first alone.
@@ -453,8 +466,10 @@ static enum refusal gate_read(const struct device *d, uint64_t offset, uint64_t 
     return ACCEPTED;
 }
 
-static enum refusal gate_write(struct device *d, uint64_t offset, uint64_t width, uint64_t value)
+static enum refusal gate_write(struct device *d, uint64_t offset, uint64_t width, uint64_t value, uint64_t *moved)
 {
+    bool gate = d->gate;
+
     if (width != 4 && (width != 8 || offset != GATE))
         return BAD_WIDTH;
     if (width == 4 && value > UINT32_MAX)
@@ -463,6 +478,7 @@ static enum refusal gate_write(struct device *d, uint64_t offset, uint64_t width
         d->gate = value >> 48 & 1;
     else if (offset == GATE_HIGH)
         d->gate = value >> 16 & 1;
+    *moved = (uint64_t)(gate ^ d->gate) << 48;
     return ACCEPTED;
 }
 
@@ -495,20 +511,20 @@ static enum refusal bus_read(const struct device *d, const struct step *s, uint6
     return core_read(&d->core[offset >> 8 & 1], offset & ~0x100ull, s->width, value);
 }
 
-static enum refusal bus_write(struct device *d, const struct step *s)
+static enum refusal bus_write(struct device *d, const struct step *s, uint64_t *moved)
 {
     bool second;
     uint64_t offset = bus_offset(s->place, &second);
 
     if (!second && (offset == GATE || offset == GATE_HIGH))
-        return gate_write(d, offset, s->width, s->value);
+        return gate_write(d, offset, s->width, s->value, moved);
     if (offset < STATUS || offset >= WINDOW_SIZE)
         return NO_REGISTER;
     if (second && !d->second_open)
         return is_bus_register(offset) ? CLOSED : NO_REGISTER;
     if (offset >= CORES_END)
-        return node_write(&d->node, offset, s->width, s->value);
-    return core_write(&d->core[offset >> 8 & 1], offset & ~0x100ull, s->width, s->value);
+        return node_write(&d->node, offset, s->width, s->value, moved);
+    return core_write(&d->core[offset >> 8 & 1], offset & ~0x100ull, s->width, s->value, moved);
 }
 
 // Bridge accesses.
@@ -600,22 +616,27 @@ static enum refusal bridge_read(const struct bridge *b, uint64_t reg, uint64_t s
     return ACCEPTED;
 }
 
-static enum refusal bridge_write(struct bridge *b, uint64_t reg, uint64_t source, uint64_t value)
+static enum refusal bridge_write(struct bridge *b, uint64_t reg, uint64_t source, uint64_t value, uint64_t *moved)
 {
     switch (reg) {
     case INT_MASK:
+        *moved = b->mask ^ value;
         b->mask = value;
         break;
     case MSI_EN:
+        *moved = b->msi ^ value;
         b->msi = value;
         break;
     case INTEDGE:
+        *moved = b->edge ^ value;
         bridge_modes(b, value);
         break;
     case SOFT_INT:
+        *moved = b->soft ^ value;
         bridge_drive(b, b->level, value);
         break;
     case AUTO_CTRL0:
+        *moved = b->turn_mode ^ value;
         b->turn_mode = value;
         break;
     case AUTO_CTRL1:
@@ -623,6 +644,7 @@ static enum refusal bridge_write(struct bridge *b, uint64_t reg, uint64_t source
             return BAD_DISTRIBUTION;
         break;
     case INTCLR:
+        *moved = b->latch & value;
         bridge_clear(b, value);
         break;
     case INTISR_CHIP0:
@@ -634,6 +656,7 @@ static enum refusal bridge_write(struct bridge *b, uint64_t reg, uint64_t source
             return NO_SOURCE;
         if (value > 255)
             return BAD_VALUE;
+        *moved = b->routes[source] ^ (value & 3);
         b->routes[source] = value & 3;
         break;
     }
@@ -653,21 +676,21 @@ static enum refusal input_change(struct bridge *b, uint64_t source, bool level)
 
 // A step.
 
-static enum refusal act(struct device *d, const struct step *s, uint64_t *value)
+static enum refusal act(struct device *d, const struct step *s, uint64_t *value, uint64_t *moved)
 {
     switch (s->kind) {
     case BUS_READ:
         return bus_read(d, s, value);
     case BUS_WRITE:
-        return bus_write(d, s);
+        return bus_write(d, s, moved);
     case PRIVATE_READ:
         return private_read(d, s, value);
     case PRIVATE_WRITE:
-        return private_write(d, s);
+        return private_write(d, s, moved);
     case BRIDGE_READ:
         return bridge_read(&d->bridge, s->unit, s->place, value);
     case BRIDGE_WRITE:
-        return bridge_write(&d->bridge, s->unit, s->place, s->value);
+        return bridge_write(&d->bridge, s->unit, s->place, s->value, moved);
     case INPUT:
         return input_change(&d->bridge, s->place, s->value);
     case NODE_INPUT:
@@ -692,7 +715,8 @@ static void device_step(struct device *d, const struct step *s, struct answer *a
     unsigned lines;
 
     a->value = 0;
-    a->refusal = act(d, s, &a->value);
+    a->moved = 0;
+    a->refusal = act(d, s, &a->value, &a->moved);
     lines = device_lines(d);
     d->node.latch |= node_drive(&d->node, lines) & ~before & edge;
     a->ipi[0] = (d->core[0].status & d->core[0].enable) != 0;
@@ -727,12 +751,12 @@ static struct step step_of(const uint64_t row[7], uint64_t x)
     return s;
 }
 
-// The checksum with an answer: the value or the refusal number, and the twelve lines.
+// The checksum with an answer: the value or the refusal number, the twelve lines, and the bits that moved.
 static uint64_t answer_folded(uint64_t sum, const struct answer *a)
 {
     uint64_t lines = a->ipi[0] | a->ipi[1] << 1 | a->bridge[0] << 2 | a->bridge[1] << 3 | (unsigned)a->pins << 4;
 
-    return (sum << 7 | sum >> 57) ^ a->value ^ (uint64_t)a->refusal << 56 ^ lines << 52;
+    return (sum << 7 | sum >> 57) ^ a->value ^ (uint64_t)a->refusal << 56 ^ lines << 52 ^ (a->moved << 29 | a->moved >> 35);
 }
 
 // The checksum with a word of the end state.

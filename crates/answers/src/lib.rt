@@ -1,4 +1,4 @@
-// What a step answers: read data or a refusal, beside the lines.
+// What a step answers: read data or a refusal, beside the bits that a write moved and the lines.
 ghost use mathlib.Core.Path.{_≡_};
 ghost use Rattle.answers.specs.Answers.{linesWord, outcomeData, outcomeNumber};
 use access::Refusal;
@@ -8,10 +8,11 @@ pub enum Outcome {
     Refused(Refusal),
 }
 
-// The outcome beside the lines after the step: IPI of core 0 and 1, bridge 0 and 1, and the line of core c and pin p as bit 4 * c + p of
-// the pins.
+// The outcome, the bits that a write moved (request Q-8), and the lines after the step: IPI of core 0 and 1, bridge 0 and 1, and the line of core c
+// and pin p as bit 4 * c + p of the pins.
 pub struct Answer {
     pub outcome: Outcome,
+    pub moved: u64,
     pub ipi0: bool,
     pub ipi1: bool,
     pub bridge0: bool,

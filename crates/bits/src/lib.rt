@@ -1,8 +1,9 @@
-// Words: masked writes, single bits, a choice of two words and of their bits, the edge-latch rule.
+// Words: masked writes and the bits that they move, single bits, a choice of two words and of their bits, the edge-latch rule.
 ghost use mathlib.Core.Path.{_≡_};
 ghost use mathlib.Core.Bool.{cond, _&&_};
 ghost use Rattle.bits.specs.Bits as specs;
 ghost use Rattle.bits.specs.Latch as latches;
+ghost use Rattle.bits.specs.Writes as writes;
 
 // Bit by bit one of two words: of `a` where `mask` is set, and of `b` elsewhere.
 pub fn select(mask: u64, a: u64, b: u64) -> u64
@@ -18,33 +19,78 @@ pub fn select32(mask: u32, word: u32, other: u32) -> u32
     (other & !mask) | (word & mask)
 }
 
-// A write: the bits of `value` where `mask` is set, and of `old` elsewhere. Every bit that a write gives a cell enters here, or by one of the three
-// below, at its width.
-pub fn merge(old: u64, mask: u64, value: u64) -> u64
-    ensures { λ r. ⌜ r ≡ specs.merge 64 old mask value ⌝ }
-{
-    select(mask, value, old)
+// What a write makes of a word: the new word, and the bits in which it differs from the old one (request Q-8).
+pub struct Merged {
+    pub word: u64,
+    pub moved: u64,
 }
 
 // The same of a word of 32 bits.
-pub fn merge32(old: u32, mask: u64, value: u64) -> u32
-    ensures { λ r. ⌜ r ≡ specs.merge 32 old mask value ⌝ }
-{
-    (merge(old as u64, mask, value) % 0x1_0000_0000) as u32
+pub struct Merged32 {
+    pub word: u32,
+    pub moved: u64,
 }
 
 // The same of a byte.
-pub fn merge8(old: u8, mask: u64, value: u64) -> u8
-    ensures { λ r. ⌜ r ≡ specs.merge 8 old mask value ⌝ }
-{
-    (merge(old as u64, mask, value) % 0x100) as u8
+pub struct Merged8 {
+    pub word: u8,
+    pub moved: u64,
 }
 
 // The same of one bit.
-pub fn merge1(old: bool, mask: bool, value: bool) -> bool
-    ensures { λ r. ⌜ r ≡ cond mask value old ⌝ }
+pub struct Merged1 {
+    pub word: bool,
+    pub moved: bool,
+}
+
+// A write: the bits of `value` where `mask` is set, and of `old` elsewhere. Every bit that a write gives a cell enters by this function or by one of
+// the three below, each at its own width; only these four compare old and new.
+pub fn merge(old: u64, mask: u64, value: u64) -> Merged
+    ensures { λ r. ⌜ r ≡ writes.merged old mask value ⌝ }
 {
-    if mask { value } else { old }
+    let word = select(mask, value, old);
+    Merged {
+        word: word,
+        moved: old ^ word,
+    }
+}
+
+// The same of a word of 32 bits.
+pub fn merge32(old: u32, mask: u64, value: u64) -> Merged32
+    ensures { λ r. ⌜ r ≡ writes.merged32 old mask value ⌝ }
+{
+    let word = (select(mask, value, old as u64) % 0x1_0000_0000) as u32;
+    Merged32 {
+        word: word,
+        moved: (old ^ word) as u64,
+    }
+}
+
+// The same of a byte.
+pub fn merge8(old: u8, mask: u64, value: u64) -> Merged8
+    ensures { λ r. ⌜ r ≡ writes.merged8 old mask value ⌝ }
+{
+    let word = (select(mask, value, old as u64) % 0x100) as u8;
+    Merged8 {
+        word: word,
+        moved: (old ^ word) as u64,
+    }
+}
+
+// The same of one bit.
+pub fn merge1(old: bool, mask: bool, value: bool) -> Merged1
+    ensures { λ r. ⌜ r ≡ writes.merged1 old mask value ⌝ }
+{
+    if mask {
+        return Merged1 {
+            word: value,
+            moved: old != value,
+        };
+    }
+    Merged1 {
+        word: old,
+        moved: false,
+    }
 }
 
 // Bit i of w; past the last bit, false.

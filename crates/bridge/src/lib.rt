@@ -2,11 +2,13 @@
 ghost use mathlib.Core.Path.{_≡_};
 ghost use mathlib.Core.Bool.{cond, not, _&&_, _||_};
 ghost use lib.Dec.{eqb};
-ghost use lib.ListN.{getD, set};
-ghost use Rattle.bits.specs.Bits.{bit, merge, word};
+ghost use lib.ListN.{getD};
+ghost use Rattle.bits.specs.Bits.{bit, word};
 ghost use Rattle.bridge_registers.specs.Registers.{inServiceAt};
 ghost use Rattle.bridge.specs.Sources.{driveWord, linesOf, pendingAt, readOf, requestWord, whichOf};
 ghost use Rattle.bridge.specs.Changes.{appliedOf, beforeOf, changedOf, inputOf, levelledOf, movedOf, settledOf};
+ghost use Rattle.bridge.specs.Moved.{changeMoved, writeMoved};
+ghost use Rattle.bridge.specs.Private.{routeMoved};
 use access::Refusal;
 use answers::Outcome;
 use bridge_registers::Cell;
@@ -28,6 +30,12 @@ pub struct Bridge {
     pub routes: [u8; 64],
 }
 
+// A bridge after a write, and the bits that the write moved (request Q-8).
+pub struct Applied {
+    pub bridge: Bridge,
+    pub moved: u64,
+}
+
 // What ROUTE_ENTRY reads as: the two bits that are held.
 fn route_read(routes: [u8; 64], source: u64) -> u64
     ensures { λ r. ⌜ r ≡ word 2 (bit (getD routes source 0)) ⌝ }
@@ -35,13 +43,22 @@ fn route_read(routes: [u8; 64], source: u64) -> u64
     (lanes::byte_at(&routes, source) % 4) as u64
 }
 
-// The routes after the bits in mask of one of them took values. Two bits of it are held.
-fn route_written(mut routes: [u8; 64], source: u64, mask: u64, value: u64) -> [u8; 64]
-    ensures { λ r. ⌜ r ≡ set routes source (merge 2 (getD routes source 0) mask value) ⌝ }
+// Routes after a write to one of them, and the bits of that one that the write moved.
+struct Routed {
+    routes: [u8; 64],
+    moved: u64,
+}
+
+// The routes after the bits in mask of one of them took values. Two bits of it are held; of a route that is not there, none moves.
+fn route_written(mut routes: [u8; 64], source: u64, mask: u64, value: u64) -> Routed
+    ensures { λ r. ⌜ r ≡ routeMoved routes source mask value ⌝ }
 {
-    let old = lanes::byte_at(&routes, source);
-    lanes::put_at(&mut routes, source, bits::merge8(old, mask, value) % 4);
-    routes
+    let new = bits::merge8(lanes::byte_at(&routes, source), mask, value);
+    lanes::put_at(&mut routes, source, new.word % 4);
+    Routed {
+        routes: routes,
+        moved: bits::choose(source < 64, new.moved % 4, 0),
+    }
 }
 
 // What settling needs of the bridge before a change: the modes, the drives and the requests.
@@ -142,9 +159,18 @@ impl Bridge {
         found(search::lowest(self.in_service(chip)))
     }
 
-    // The bridge after an effect of a plain write.
-    pub fn applied(mut self, effect: Effect) -> Bridge
-        ensures { λ r. ⌜ r ≡ appliedOf self effect ⌝ }
+    fn with(self, moved: u64) -> Applied
+        ensures { λ r. ⌜ r ≡ record { bridge = self; moved = moved } ⌝ }
+    {
+        Applied {
+            bridge: self,
+            moved: moved,
+        }
+    }
+
+    // The bridge after an effect of a plain write, and the bits of the cell that then differ.
+    pub fn applied(mut self, effect: Effect) -> Applied
+        ensures { λ r. ⌜ r ≡ writeMoved self (appliedOf self effect) (effect .cell) ⌝ }
     {
         let routes = self.routes;
         let cell = effect.cell;
@@ -152,43 +178,50 @@ impl Bridge {
         let bits = effect.bits;
         match cell {
             Cell::Mask => {
-                self.mask = bits::merge(self.mask, mask, bits);
-                self
+                let new = bits::merge(self.mask, mask, bits);
+                self.mask = new.word;
+                self.with(new.moved)
             }
             Cell::Msi => {
-                self.msi = bits::merge(self.msi, mask, bits);
-                self
+                let new = bits::merge(self.msi, mask, bits);
+                self.msi = new.word;
+                self.with(new.moved)
             }
             Cell::Route(i) => {
-                let new = route_written(routes, i, mask, bits);
+                let written = route_written(routes, i, mask, bits);
+                let new = written.routes;
                 self.routes = new;
-                self
+                self.with(written.moved)
             }
         }
     }
 
     // What a change itself moves.
-    fn moved(mut self, change: Change) -> Bridge
-        ensures { λ r. ⌜ r ≡ movedOf self change ⌝ }
+    fn moved(mut self, change: Change) -> Applied
+        ensures { λ r. ⌜ r ≡ changeMoved self (movedOf self change) change ⌝ }
     {
         match change {
             Change::Edge { mask, bits } => {
-                self.edge = bits::merge(self.edge, mask, bits);
-                self
+                let new = bits::merge(self.edge, mask, bits);
+                self.edge = new.word;
+                self.with(new.moved)
             }
             Change::Soft { mask, bits } => {
-                self.soft = bits::merge(self.soft, mask, bits);
-                self
+                let new = bits::merge(self.soft, mask, bits);
+                self.soft = new.word;
+                self.with(new.moved)
             }
             Change::Auto { mask, bits } => {
-                self.auto = bits::merge(self.auto, mask, bits);
-                self
+                let new = bits::merge(self.auto, mask, bits);
+                self.auto = new.word;
+                self.with(new.moved)
             }
             Change::Latch { mask, bits } => {
-                self.latch = bits::merge(self.latch, mask, bits);
-                self
+                let new = bits::merge(self.latch, mask, bits);
+                self.latch = new.word;
+                self.with(new.moved)
             }
-            Change::Nothing => self,
+            Change::Nothing => self.with(0),
         }
     }
 
@@ -225,11 +258,13 @@ impl Bridge {
         self
     }
 
-    // The bridge after a change that is not plain.
-    pub fn changed(self, change: Change) -> Bridge
-        ensures { λ r. ⌜ r ≡ changedOf self change ⌝ }
+    // The bridge after a change that is not plain, and the bits of the cell that then differ: what follows from the change moves none of them.
+    pub fn changed(self, change: Change) -> Applied
+        ensures { λ r. ⌜ r ≡ changeMoved self (changedOf self change) change ⌝ }
     {
-        self.moved(change).settled(self.before())
+        let after = self.moved(change);
+        let bridge = after.bridge;
+        bridge.settled(self.before()).with(after.moved)
     }
 
     fn levelled(mut self, source: u64, level: bool) -> Bridge

@@ -75,7 +75,7 @@ module _ {a b : Bool} where
 pub begin-ipi : (d : Device) → Ipi (linesOf (beginOf d) .ipi0) (linesOf (beginOf d) .ipi1) (beginOf d)
 unfolding answeredOf
 begin-ipi d =
-    let k = driven-ipi {a = lineOf (d .core0)} {b = lineOf (d .core1)} 64 0 (bit 0xffffffffffffffff) false (answeredOf d (Value 0)) (record { shown0 = refl; shown1 = refl; core0 = refl; core1 = refl }) in
+    let k = driven-ipi {a = lineOf (d .core0)} {b = lineOf (d .core1)} 64 0 (bit 0xffffffffffffffff) false (answeredOf d (Value 0) 0) (record { shown0 = refl; shown1 = refl; core0 = refl; core1 = refl }) in
     record { shown0 = refl; shown1 = refl; core0 = k .core0 ∙ sym (k .shown0); core1 = k .core1 ∙ sym (k .shown1) }
 
 -- ---- events in a row

@@ -184,7 +184,7 @@ ipi-line false = refl
 pub device-follows : DeviceFollows
 unfolding wiredDevice answeredOf bit
 device-follows a b es =
-    let first = answeredOf (wiredDevice a b) (Value 0) in
+    let first = answeredOf (wiredDevice a b) (Value 0) 0 in
     let r = driven (bit 0xffffffffffffffff) false 64 0 first 0 (omega arith) (record {
       gate = refl;
       bridge = record { mask = refl; msi = refl; edge = refl; soft = refl; auto = refl; route = refl; level = refl };

@@ -9,6 +9,7 @@ use Rattle.bits.specs.Bits.{bit}
 use Rattle.bits.specs.Latch.{cleared, latched, rises, risen}
 use Rattle.bits.proofs.Taut.{taut}
 use Rattle.bits.proofs.Words.{below, bit-word, ext, word-lt}
+use Rattle.bits.proofs.Writes.{differ-same}
 use Rattle.bridge.specs.declared.Bridge.{Bridge}
 use Rattle.bridge.specs.Sources.{lineOf}
 use Rattle.bridge.specs.Changes.{inputOf}
@@ -21,6 +22,7 @@ use Rattle.tree.specs.declared.Tree.{Tree}
 use Rattle.tree.specs.declared.Act.the-variants as act
 use Rattle.tree.specs.declared.Change.the-variants as change
 use Rattle.tree.specs.Tree.{actedOf, linesOf, movedOf, settledOf, unsettledOf, withBridge}
+use Rattle.tree.specs.Moved as moved
 use Rattle.tree.proofs.Lines.{line-bit}
 use Rattle.admission.specs.Refusals.{inputRefusals}
 use Rattle.steps.specs.declared.Step.the-variants.{Input}
@@ -29,7 +31,7 @@ use Rattle.answers.specs.declared.Outcome.the-variants.{Value}
 use Rattle.device.specs.declared.Device.{Device}
 use Rattle.device.specs.declared.Stepped.{Stepped}
 use Rattle.device.specs.Device.{answeredOf, withTree}
-use Rattle.device.specs.Step.{nextOf, outcomeOf, stepOf}
+use Rattle.device.specs.Step.{cellOf, movedWord, nextOf, outcomeOf, stepOf}
 use Rattle.capture_ids.proofs.Bools.{never}
 use Rattle.capture_run.specs.Order.{InputsCommute}
 use Rattle.capture_run.proofs.Sources.{bridge-commute, line-down, line-up}
@@ -147,17 +149,17 @@ tree-commute t to i j = λ n. record {
 
 module _ (d : Device) (to : Bool) where
   -- an input step that is accepted
-  step-at : (i : ℕ) → i < 64 → stepOf d (Input i to) ≡ answeredOf (withTree d (stepped to i (d .tree))) (Value 0)
-  unfolding stepOf decideOf inputPlan inputRefusals nextOf outcomeOf
-  step-at i h = rw (le-ltb 63 i (omega arith))
+  step-at : (i : ℕ) → i < 64 → stepOf d (Input i to) ≡ answeredOf (withTree d (stepped to i (d .tree))) (Value 0) 0
+  unfolding stepOf decideOf inputPlan inputRefusals nextOf outcomeOf movedWord cellOf moved.cellOf
+  step-at i h = rw (le-ltb 63 i (omega arith), differ-same 64 0)
 
 module _ (d : Device) (to : Bool) where
-  two-steps : (i j : ℕ) → i < 64 → j < 64 → stepOf (stepOf d (Input i to) .device) (Input j to) ≡ answeredOf (withTree d (stepped to j (stepped to i (d .tree)))) (Value 0)
+  two-steps : (i j : ℕ) → i < 64 → j < 64 → stepOf (stepOf d (Input i to) .device) (Input j to) ≡ answeredOf (withTree d (stepped to j (stepped to i (d .tree)))) (Value 0) 0
   unfolding answeredOf
   two-steps i j h g = ap (λ (x : Stepped). stepOf (x .device) (Input j to)) (step-at d to i h) ∙ step-at (withTree d (stepped to i (d .tree))) to j g
 
 pub inputs-commute : InputsCommute
 inputs-commute to i j h g now =
     two-steps (now .device) to i j h g
-    ∙ ap (λ (t : Tree). answeredOf (withTree (now .device) t) (Value 0)) (tree-commute (now .device .tree) to i j)
+    ∙ ap (λ (t : Tree). answeredOf (withTree (now .device) t) (Value 0) 0) (tree-commute (now .device .tree) to i j)
     ∙ sym (two-steps (now .device) to j i g h)

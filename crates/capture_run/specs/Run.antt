@@ -36,7 +36,7 @@ drivenOf inputs level now = drivenFrom 0 64 (bit inputs) level now
 
 -- Before the file each of in0 to in63 is taken to 0 by an input change, declared or not.
 abbrev pub beginOf : Device → Stepped
-beginOf d = drivenOf 0xffffffffffffffff false (answeredOf d (Value 0))
+beginOf d = drivenOf 0xffffffffffffffff false (answeredOf d (Value 0) 0)
 
 -- ---- what a token calls for
 

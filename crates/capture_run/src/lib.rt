@@ -27,7 +27,11 @@ fn driven(inputs: u64, level: bool, before: Stepped) -> Stepped
 pub fn begin(d: Device) -> Stepped
     ensures { λ r. ⌜ r ≡ run.beginOf d ⌝ }
 {
-    driven(0xffff_ffff_ffff_ffff, false, d.answered(Outcome::Value(0)))
+    driven(
+        0xffff_ffff_ffff_ffff,
+        false,
+        d.answered(Outcome::Value(0), 0),
+    )
 }
 
 // The device after what a token calls for.

@@ -1,2 +1,3 @@
 mod Four
 mod Own
+mod Moved

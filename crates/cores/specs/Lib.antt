@@ -1,2 +1,3 @@
 pub mod Cells
 pub mod Core
+pub mod Moved

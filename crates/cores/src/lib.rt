@@ -3,6 +3,7 @@ ghost use mathlib.Core.Path.{_≡_};
 ghost use mathlib.Core.Bool.{cond};
 ghost use lib.ListN.{getD, set};
 ghost use Rattle.cores.specs.Core.{appliedOf, lineOf, mailBoxRead, readOf};
+ghost use Rattle.cores.specs.Moved.{withMoved};
 use ipi_registers::Cell;
 use ipi_registers::Effect;
 use ipi_registers::Register;
@@ -11,6 +12,12 @@ pub struct Core {
     pub status: u32,
     pub enable: u32,
     pub mail: [u64; 4],
+}
+
+// A core after a write, and the bits that the write moved (request Q-8).
+pub struct Applied {
+    pub core: Core,
+    pub moved: u64,
 }
 
 // Mailboxes are chosen word by word and not by an index: an index would have the array written to memory and read back at every step.
@@ -68,9 +75,9 @@ impl Core {
         }
     }
 
-    // The core after an effect, where the effect is its own.
-    pub fn applied(mut self, own: bool, effect: Effect) -> Core
-        ensures { λ r. ⌜ r ≡ cond own (appliedOf self effect) self ⌝ }
+    // The core after an effect, where the effect is its own, and the bits of the cell that then differ. Of a mailbox that is not there, none does.
+    pub fn applied(mut self, own: bool, effect: Effect) -> Applied
+        ensures { λ r. ⌜ r ≡ withMoved self (cond own (appliedOf self effect) self) (effect .cell) ⌝ }
     {
         let mail = self.mail;
         let cell = effect.cell;
@@ -79,20 +86,29 @@ impl Core {
         match cell {
             Cell::Status => {
                 let new = bits::merge32(self.status, mask, bits);
-                self.status = bits::choose32(own, new, self.status);
-                self
+                self.status = bits::choose32(own, new.word, self.status);
+                Applied {
+                    core: self,
+                    moved: bits::choose(own, new.moved, 0),
+                }
             }
             Cell::Enable => {
                 let new = bits::merge32(self.enable, mask, bits);
-                self.enable = bits::choose32(own, new, self.enable);
-                self
+                self.enable = bits::choose32(own, new.word, self.enable);
+                Applied {
+                    core: self,
+                    moved: bits::choose(own, new.moved, 0),
+                }
             }
             Cell::MailBox(i) => {
                 let old = mailbox(mail, i);
-                let word = bits::choose(own, bits::merge(old, mask, bits), old);
-                let new = put_mailbox(mail, i, word);
-                self.mail = new;
-                self
+                let new = bits::merge(old, mask, bits);
+                let all = put_mailbox(mail, i, bits::choose(own, new.word, old));
+                self.mail = all;
+                Applied {
+                    core: self,
+                    moved: bits::choose(own, bits::choose(i < 4, new.moved, 0), 0),
+                }
             }
         }
     }

@@ -1,5 +1,5 @@
 -- The device and its lines (01, "The cells" and "The four lines"; requests Q-2 and Q-4).
---   freshOf, resetOf   the fresh state and the reset values     answeredOf   an outcome beside the lines
+--   freshOf, resetOf   the fresh state and the reset values     answeredOf   what a step answers
 use Prim.Native.Nat.{ℕ}
 use mathlib.Core.Bool.{Bool, false, cond}
 use lib.Dec.{eqb}
@@ -58,11 +58,12 @@ withOpen d opened = record { core0 = d .core0; core1 = d .core1; tree = d .tree;
 
 -- ---- the lines
 
--- the outcome beside the four lines, and those to the pins: core c and pin p as bit 4 * c + p
-unfoldable pub answeredOf : Device → Outcome → Stepped
-answeredOf d outcome = record {
+-- the outcome and the bits that were moved (request Q-8) beside the four lines, and those to the pins: core c and pin p as bit 4 * c + p
+unfoldable pub answeredOf : Device → Outcome → ℕ → Stepped
+answeredOf d outcome moved = record {
   answer = record {
     outcome = outcome;
+    moved = moved;
     ipi0 = cores.lineOf (d .core0);
     ipi1 = cores.lineOf (d .core1);
     bridge0 = tree.bridgeLine (d .tree) 0;

@@ -23,6 +23,12 @@ pub struct Stepped {
     pub device: Device,
 }
 
+// A device after a step, and the bits that the step moved (request Q-8).
+struct Next {
+    device: Device,
+    moved: u64,
+}
+
 // What a plan does to the device, by the part that it reaches. It serves speed: what follows from a change of the tree has one place in
 // the code, and is not looked at in the other cases.
 enum Class {
@@ -148,30 +154,53 @@ impl Device {
         }
     }
 
-    fn next(self, class: Class) -> Device
-        ensures { λ r. ⌜ r ≡ classNext self class ⌝ }
+    fn with(self, moved: u64) -> Next
+        ensures { λ r. ⌜ r ≡ record { device = self; moved = moved } ⌝ }
     {
-        let core0 = self.core0;
-        let core1 = self.core1;
-        match class {
-            Class::Keep => self,
-            Class::Cores { effect, core } => {
-                let new0 = core0.applied(core == 0, effect);
-                let new1 = core1.applied(core != 0, effect);
-                self.with_cores(new0, new1)
-            }
-            Class::Tree(act) => {
-                let tree = self.tree;
-                self.with_tree(tree.acted(act))
-            }
-            Class::Window(open) => self.with_open(open),
-            Class::Reset => self.reset(),
+        Next {
+            device: self,
+            moved: moved,
         }
     }
 
-    // The outcome beside the lines.
-    pub fn answered(self, outcome: Outcome) -> Stepped
-        ensures { λ r. ⌜ r ≡ answeredOf self outcome ⌝ }
+    // Both cores take the effect, and it moves bits of one alone.
+    fn cores_applied(self, effect: ipi_registers::Effect, core: u64) -> Next
+        ensures { λ r. ⌜ r ≡ classNext self (Class.Cores effect core) ⌝ }
+    {
+        let core0 = self.core0;
+        let core1 = self.core1;
+        let applied0 = core0.applied(core == 0, effect);
+        let applied1 = core1.applied(core != 0, effect);
+        let new0 = applied0.core;
+        let new1 = applied1.core;
+        self.with_cores(new0, new1)
+            .with(applied0.moved | applied1.moved)
+    }
+
+    fn tree_acted(self, act: Act) -> Next
+        ensures { λ r. ⌜ r ≡ classNext self (Class.Tree act) ⌝ }
+    {
+        let tree = self.tree;
+        let acted = tree.acted(act);
+        let new = acted.tree;
+        self.with_tree(new).with(acted.moved)
+    }
+
+    fn next(self, class: Class) -> Next
+        ensures { λ r. ⌜ r ≡ classNext self class ⌝ }
+    {
+        match class {
+            Class::Keep => self.with(0),
+            Class::Cores { effect, core } => self.cores_applied(effect, core),
+            Class::Tree(act) => self.tree_acted(act),
+            Class::Window(open) => self.with_open(open).with(0),
+            Class::Reset => self.reset().with(0),
+        }
+    }
+
+    // The outcome and the bits that were moved beside the lines.
+    pub fn answered(self, outcome: Outcome, moved: u64) -> Stepped
+        ensures { λ r. ⌜ r ≡ answeredOf self outcome moved ⌝ }
     {
         let core0 = self.core0;
         let core1 = self.core1;
@@ -183,6 +212,7 @@ impl Device {
         Stepped {
             answer: Answer {
                 outcome: outcome,
+                moved: moved,
                 ipi0: ipi0,
                 ipi1: ipi1,
                 bridge0: bits::test(lines as u64, 0),
@@ -199,6 +229,8 @@ impl Device {
     {
         let plan = steps::decide(step, self.second_open);
         let outcome = self.outcome(plan);
-        self.next(class_of(plan)).answered(outcome)
+        let next = self.next(class_of(plan));
+        let device = next.device;
+        device.answered(outcome, next.moved)
     }
 }

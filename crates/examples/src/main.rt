@@ -1,5 +1,6 @@
 // Runs the examples of 01 ("Examples on each side") that the proved table leaves, and says of each whether the device does what 01 says, or the request
-// that changed it (11: Q-1, 13: Q-6). Then come facts of section 8.2, by the readings of Q-2, searches (Q-5) and turns (Q-6).
+// that changed it (11: Q-1, 13: Q-6). Then come facts of section 8.2, by the readings of Q-2, searches (Q-5), turns (Q-6) and the bits that steps
+// moved (Q-8).
 // The parts of an example are lettered in 01's order; those that are missing are in the table, crates/promises/specs/Examples.antt. 8a to 8f,
 // 9b and 12b are there too, and so is 12c with other mail sends: they are run here again.
 mod cells;
@@ -252,6 +253,28 @@ fn turns(run: Run) -> Run {
         .shows(Register::IntIsrChip1, SOURCE_63)
 }
 
+// The bits that a write moved: of a half in its place, of the same write again none, of the gate bit 48.
+fn moved(run: Run) -> Run {
+    let mail = private_write(0, 0x1048, 8, 0xaabbccdd_4001001c);
+    run.fresh()
+        .moves(mail, 0x00bbccdd_00000000)
+        .moves(mail, 0)
+        .moves(bus_write(0x1fe00424, 4, 0x00010000), GATE)
+}
+
+// Of INTEDGE the mode, and not the latch that goes with it; of a route the bits that are held; no word of an input change, and none of a write that is
+// refused.
+fn moved_alone(run: Run) -> Run {
+    run.fresh()
+        .moves(bridge_write(Register::IntEdge, 8), 8)
+        .moves(input(3, true), 0)
+        .moves(bridge_write(Register::IntEdge, 0), 8)
+        .moves(bridge_write(Register::SoftInt, 8), 8)
+        .moves(bridge_write(Register::RouteEntry(63), 0xff), 3)
+        .moves(bus_write(ENTRY_10, 1, 0xff), 0xf3)
+        .moves(bus_write(0x1fe01004, 4, 0x100000000), 0)
+}
+
 fn main() {
     let run = Run::start();
     let run = example_5(run);
@@ -272,5 +295,7 @@ fn main() {
     let run = node_sources(run);
     let run = which_source(run);
     let run = turns(run);
+    let run = moved(run);
+    let run = moved_alone(run);
     run.show_totals();
 }

@@ -127,6 +127,16 @@ Q-5 source 0 too, routed to INTn0
 Q-5 which source in INTISR_CHIP1
 Q-6 INTISR_CHIP1, source 63 high, in turn mode, routed to both
 Q-6 INTISR_CHIP1, source 63 low and high again
+Q-8 the mail send of example 3
+Q-8 the same again
+Q-8 write 0x1fe00424, 4 = 0x00010000
+Q-8 INTEDGE = 8
+Q-8 input 3 high
+Q-8 INTEDGE = 0
+Q-8 SOFT_INT = 8
+Q-8 ROUTE_ENTRY 63 = 0xff
+Q-8 Entry 10 = 0xff
+Q-8 write 0x1fe01004, 4 = 0x100000000
 ",
         n,
     );

@@ -186,6 +186,22 @@ impl Run {
         self.reads(bridge_read(register), value)
     }
 
+    // The bits that a step moved.
+    pub(crate) fn moves(self, step: Step, moved: u64) -> Run {
+        let before = self.device;
+        let stepped = before.step(step);
+        let answer = stepped.answer;
+        let after = stepped.device;
+        let passed = answer.moved == moved;
+        show_name(self.count());
+        show::moved(moved);
+        show::verdict(passed);
+        if !passed {
+            show::moved(answer.moved);
+        }
+        self.with_device(after).counted(passed)
+    }
+
     // Whether two writes end in the same cells in both orders.
     pub(crate) fn orders(self, a: Step, b: Step, agree: bool) -> Run {
         let d = self.device;

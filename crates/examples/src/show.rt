@@ -24,6 +24,11 @@ pub(crate) fn value(n: u64) {
     hex(n);
 }
 
+pub(crate) fn moved(n: u64) {
+    text(b"moved ");
+    hex(n);
+}
+
 fn digit(n: u64) -> u8 {
     if n % 2 == 0 { b'0' } else { b'1' }
 }

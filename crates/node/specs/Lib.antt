@@ -1,3 +1,4 @@
 pub mod Cells
 pub mod Sources
 pub mod Changes
+pub mod Moved

@@ -5,6 +5,7 @@ ghost use Rattle.bits.specs.Bits.{bit, word};
 ghost use Rattle.bits.specs.Latch.{latched};
 ghost use Rattle.node.specs.Sources.{driveWord, pendingAt, pinsOf, readOf, requestWord, statusWord};
 ghost use Rattle.node.specs.Changes.{appliedOf, beforeOf, disabled, levelledOf, movedOf, settledOf};
+ghost use Rattle.node.specs.Moved.{changeMoved, writeMoved};
 use node_registers::Cell;
 use node_registers::Change;
 use node_registers::Effect;
@@ -17,6 +18,12 @@ pub struct Node {
     pub latch: u32,
     pub level: u32,
     pub routes: [u8; 32],
+}
+
+// A node after a write, and the bits that the write moved (request Q-8).
+pub struct Applied {
+    pub node: Node,
+    pub moved: u64,
 }
 
 // What settling needs of the node before a step: the edge choices and the drives.
@@ -119,9 +126,18 @@ impl Node {
         }
     }
 
-    // The node after an effect of a plain write.
-    pub fn applied(mut self, effect: Effect) -> Node
-        ensures { λ r. ⌜ r ≡ appliedOf self effect ⌝ }
+    fn with(self, moved: u64) -> Applied
+        ensures { λ r. ⌜ r ≡ record { node = self; moved = moved } ⌝ }
+    {
+        Applied {
+            node: self,
+            moved: moved,
+        }
+    }
+
+    // The node after an effect of a plain write, and the bits of the cell that then differ; the latches that go with the enables are not among them.
+    pub fn applied(mut self, effect: Effect) -> Applied
+        ensures { λ r. ⌜ r ≡ writeMoved self (appliedOf self effect) (effect .cell) ⌝ }
     {
         let routes = self.routes;
         let cell = effect.cell;
@@ -129,28 +145,31 @@ impl Node {
         let bits = effect.bits;
         match cell {
             Cell::Inten => {
-                self.enable = bits::merge32(self.enable, mask, bits);
+                let new = bits::merge32(self.enable, mask, bits);
+                self.enable = new.word;
                 self.latch = latch_disabled(self.latch, mask, bits);
-                self
+                self.with(new.moved)
             }
             Cell::Entry(i) => {
-                let new = routes::written(routes, i, mask, bits);
+                let written = routes::written(routes, i, mask, bits);
+                let new = written.routes;
                 self.routes = new;
-                self
+                self.with(written.moved)
             }
         }
     }
 
-    // What a change itself moves.
-    pub fn moved(mut self, change: Change) -> Node
-        ensures { λ r. ⌜ r ≡ movedOf self change ⌝ }
+    // What a change itself moves, and the bits of the cell that then differ.
+    pub fn moved(mut self, change: Change) -> Applied
+        ensures { λ r. ⌜ r ≡ changeMoved self (movedOf self change) change ⌝ }
     {
         match change {
             Change::Edge { mask, bits } => {
-                self.edge = bits::merge32(self.edge, mask, bits);
-                self
+                let new = bits::merge32(self.edge, mask, bits);
+                self.edge = new.word;
+                self.with(new.moved)
             }
-            Change::Nothing => self,
+            Change::Nothing => self.with(0),
         }
     }
 

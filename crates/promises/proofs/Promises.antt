@@ -2,7 +2,7 @@
 use Prim.Native.Nat.{ℕ, _+_, _*_, _/_, _%_, _^_, _<_, _≤_}
 use mathlib.Core.Path.{_≡_, refl, sym, ap, _∙_}
 use mathlib.Core.Logic.{_↔_}
-use mathlib.Core.Bool.{Bool, true, false, cond, not, _&&_, true≢false}
+use mathlib.Core.Bool.{Bool, true, false, cond, _&&_, true≢false}
 use native.Mathlib.Omega.{arith}
 use lib.Dec.{eqb}
 use borrow.Table.Steps.{cases}
@@ -10,8 +10,8 @@ use borrow.Author.Tests.{eq-eqb, eqb-false, eqb-true, not-false, not-true}
 use Rattle.bits.specs.Bits.{bit, digit, first, some}
 use Rattle.bits.specs.Latch.{cleared, latched, risen}
 use Rattle.bits.proofs.Some.{some-at, some-bit, some-of}
-use Rattle.bits.proofs.Taut.{taut}
 use Rattle.bits.proofs.Words.{bit-word, word-lt}
+use Rattle.bits.proofs.Writes.{differ-same, latch-stays}
 use Rattle.lanes.proofs.LowestBit.{first-set}
 use Rattle.search.proofs.First.{first-below}
 use Rattle.access.specs.declared.Refusal.{Refusal}
@@ -46,7 +46,7 @@ use Rattle.steps.specs.declared.Plan.the-variants.{Refuse, ReadCore, WriteCore,
 use Rattle.device.specs.Device.{answeredOf, resetOf, startOf, withCore0, withCore1}
 use Rattle.steps.specs.Decide.{bridgePlan, decideOf, inputPlan, nodeInputPlan, planned, writtenPlan}
 use Rattle.answers.specs.Answers.{outcomeData, outcomeNumber}
-use Rattle.device.specs.Step.{nextOf, outcomeOf, stepOf}
+use Rattle.device.specs.Step.{cellOf, movedWord, nextOf, outcomeOf, stepOf}
 use Rattle.promises.specs.Promises.{Alternating, BesideBridge, BesideNode, BridgeLines, BridgeSteps, Cause, IpiLines, Left, NodeInputs, Passed, PinLines, RefusedSteps, Routed, Searched, Separation, Settles, Vector, WhichSource}
 
 -- ---- refused steps
@@ -79,16 +79,17 @@ numbered refusal.Distribution = (omega arith, omega arith)
 numbered refusal.NoneInService = (omega arith, omega arith)
 
 pub refused-steps : RefusedSteps
-unfolding stepOf answeredOf outcomeData outcomeNumber
+unfolding stepOf movedWord answeredOf outcomeData outcomeNumber
 refused-steps d s reason e =
     let p = decideOf (d .«second_open») s in
     let q : nextOf d p ≡ d = refused-plan d p reason e in
+    let m : movedWord d p (nextOf d p) ≡ 0 = ap (movedWord d p) q ∙ differ-same 64 (cellOf d p) in
     record {
       from-1 = rw e (numbered reason .0);
       to-9 = rw e (numbered reason .1);
       device = q;
       nothing-read = rw e;
-      lines = ap (λ (x : Device). answeredOf x (outcomeOf d p) .answer) q;
+      answer = λ i. answeredOf (q i) (outcomeOf d p) (m i) .answer;
     }
 
 -- ---- the lines
@@ -210,10 +211,6 @@ which-source d chip =
 
 -- ---- separation
 
--- a drive that stays is no rise, and a choice that stays clears nothing
-stays : (edge drive latch : Bool) → cond (edge && (not drive && drive)) true (cond (edge && not edge) false latch) ≡ latch
-stays = taut 3 _ _ tt
-
 -- whatever becomes of the bridge's lines
 settles : (n : Node) (before after : ℕ) → Settles n (nodes.settledOf (nodes.beforeOf n before) n after)
 unfolding nodes.settledOf latched risen cleared
@@ -221,7 +218,7 @@ settles n before after = (
   refl,
   λ i l h.
       bit-word 32 _ i h
-      ∙ rw (bit-word 32 _ i h, drive-level n before i l h, drive-level n after i l h) (stays (bit (n .edge) i) (bit (n .level) i) (bit (n .latch) i)),
+      ∙ rw (bit-word 32 _ i h, drive-level n before i l h, drive-level n after i l h) (latch-stays (bit (n .edge) i) (bit (n .level) i) (bit (n .latch) i)),
 )
 
 core-left : (d : Device) (t : Bool) (k : Core)

@@ -38,13 +38,14 @@ use Rattle.device.specs.Step.{stepOf}
 
 -- ---- refused steps
 
--- the number is one of 1 to 9, the device is as it was, the read data are 0, and the lines are those of the device as it was
+-- the number is one of 1 to 9, the device is as it was, the read data are 0, no bit was moved (request Q-8), and the lines are those of the device as
+-- it was
 pub record Unchanged (d : Device) (s : Step) : Type 0 where
   pub from-1 : 1 ≤ outcomeNumber (stepOf d s .answer .outcome)
   pub to-9 : outcomeNumber (stepOf d s .answer .outcome) ≤ 9
   pub device : stepOf d s .device ≡ d
   pub nothing-read : outcomeData (stepOf d s .answer .outcome) ≡ 0
-  pub lines : stepOf d s .answer ≡ answeredOf d (stepOf d s .answer .outcome) .answer
+  pub answer : stepOf d s .answer ≡ answeredOf d (stepOf d s .answer .outcome) 0 .answer
 
 abbrev pub RefusedSteps : Type 0
 RefusedSteps = (d : Device) (s : Step) (reason : Refusal) → stepOf d s .answer .outcome ≡ Refused reason → Unchanged d s

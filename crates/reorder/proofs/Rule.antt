@@ -127,6 +127,6 @@ ordered d h = record {
   rule = λ ws all. view-rule viewed d (seen d h) ws all;
   writes = λ s l. listed-written viewed s d l (seen d h);
   acceptance = answers-stay viewed outcome by-rest d (seen d h);
-  lines = λ ps qs q o. ap (λ (e : Device). firstFour (answeredOf e o .answer)) q;
+  lines = λ ps qs q o moved. ap (λ (e : Device). firstFour (answeredOf e o moved .answer)) q;
   turns = λ s l. ap (λ (r : Rest). r .turn) (listed-written viewed s d l (seen d h) .kept);
 }

@@ -6,6 +6,7 @@
 --   TurnsStay         no listed write moves a turn bit (request Q-6)
 --   Ordered           all of these, of one device: what `compared` in src/ promises of every device
 --   viewOf            what is compared of a device: every cell but the latches of the node
+use Prim.Native.Nat.{ℕ}
 use mathlib.Core.Path.{_≡_}
 use mathlib.Core.Logic.{_↔_}
 use mathlib.Core.List.{List}
@@ -51,7 +52,7 @@ AcceptanceStays d = AnswersStay outcome next (Listed d) d
 abbrev pub LinesAgree : Device → Type 0
 LinesAgree d =
     (ps qs : List Step) → viewOf (run next ps d) ≡ viewOf (run next qs d)
-    → (o : Outcome) → firstFour (answeredOf (run next ps d) o .answer) ≡ firstFour (answeredOf (run next qs d) o .answer)
+    → (o : Outcome) (moved : ℕ) → firstFour (answeredOf (run next ps d) o moved .answer) ≡ firstFour (answeredOf (run next qs d) o moved .answer)
 
 -- no listed write moves a turn bit: none takes a request of the bridge from 1 to 0
 abbrev pub TurnsStay : Device → Type 0

@@ -1,30 +1,41 @@
 // Table 8-6: the route bytes of the node's 32 sources: read, written, the sources routed to a core, the lines that routes name.
 ghost use mathlib.Core.Path.{_≡_};
 ghost use lib.ListN.{getD};
-ghost use Rattle.routes.specs.Routes.{linesOf, routeRead, routedOf, writtenOf};
+ghost use Rattle.routes.specs.Routes.{linesOf, routeRead, routedOf};
+ghost use Rattle.routes.specs.Moved.{routeMoved};
 ghost use Rattle.routes.specs.Private.{reachedOf};
 
 // Bits 3..2 name cores that the model lacks.
-fn held(byte: u8) -> u64
+fn held(byte: u64) -> u64
     ensures { λ r. ⌜ r ≡ routeRead byte ⌝ }
 {
-    (byte & 0xf3) as u64
+    0xf3 & byte
 }
 
 // What Entry reads as.
 pub fn read(routes: [u8; 32], source: u64) -> u64
     ensures { λ r. ⌜ r ≡ routeRead (getD routes source 0) ⌝ }
 {
-    held(lanes::byte_at(&routes, source))
+    held(lanes::byte_at(&routes, source) as u64)
 }
 
-// The routes after the bits in mask of one of them took values.
-pub fn written(mut routes: [u8; 32], source: u64, mask: u64, value: u64) -> [u8; 32]
-    ensures { λ r. ⌜ r ≡ writtenOf routes source mask value ⌝ }
+// Routes after a write to one of them, and the bits of that one that the write moved (request Q-8).
+pub struct Applied {
+    pub routes: [u8; 32],
+    pub moved: u64,
+}
+
+// The routes after the bits in mask of one of them took values, and the bits of it, of those that are held, which then differ. Of a route that is
+// not there, none does.
+pub fn written(mut routes: [u8; 32], source: u64, mask: u64, value: u64) -> Applied
+    ensures { λ r. ⌜ r ≡ routeMoved routes source mask value ⌝ }
 {
-    let old = lanes::byte_at(&routes, source);
-    lanes::put_at(&mut routes, source, bits::merge8(old, mask, value));
-    routes
+    let new = bits::merge8(lanes::byte_at(&routes, source), mask, value);
+    lanes::put_at(&mut routes, source, new.word);
+    Applied {
+        routes: routes,
+        moved: bits::choose(source < 32, held(new.moved), 0),
+    }
 }
 
 // The sources in `which` that are routed to a core. Only their routes are looked at.

@@ -27,28 +27,30 @@ pub(crate) const EXPECT_REFUSED: u64 = 16;
 
 pub(crate) const EXPECT_LINES: u64 = 17;
 
-pub(crate) const REORDER_BEGIN: u64 = 18;
+pub(crate) const EXPECT_MOVED: u64 = 18;
 
-pub(crate) const REORDER_END: u64 = 19;
+pub(crate) const REORDER_BEGIN: u64 = 19;
+
+pub(crate) const REORDER_END: u64 = 20;
 
 // Open: any form, and those whose first word is known, or two of them.
-pub(crate) const ANY: u64 = 20;
+pub(crate) const ANY: u64 = 21;
 
-const BUS: u64 = 21;
+const BUS: u64 = 22;
 
-const CORE: u64 = 22;
+const CORE: u64 = 23;
 
-const BRIDGE: u64 = 23;
+const BRIDGE: u64 = 24;
 
-const REGISTER: u64 = 24;
+const REGISTER: u64 = 25;
 
-const NODE: u64 = 25;
+const NODE: u64 = 26;
 
-const WINDOW: u64 = 26;
+const WINDOW: u64 = 27;
 
-const REORDER: u64 = 27;
+const REORDER: u64 = 28;
 
-pub(crate) const BLANK: u64 = 28;
+pub(crate) const BLANK: u64 = 29;
 
 // Puts the text of a form.
 pub(crate) fn put_form(out: &mut [u8], at: usize, form: u64) -> usize {
@@ -68,9 +70,10 @@ bridge read ROUTE_ENTRY SOURCE
 bridge write ROUTE_ENTRY SOURCE VALUE
 window closed
 replay CAPTURE DUMP
-expect VALUE, expect refused N or expect lines BITS
+expect VALUE, expect refused N, expect lines BITS or expect moved WORD
 expect refused N
 expect lines BITS, where BITS is four or twelve flags, each 0 or 1
+expect moved WORD
 reorder begin
 reorder end
 bus, core, bridge, input, node, which, window, reset, replay, expect or reorder
@@ -134,6 +137,15 @@ fn node_form(second: &[u8]) -> u64 {
     NODE
 }
 
+fn expect_form(second: &[u8]) -> u64 {
+    match find(b"refused lines moved", second) {
+        0 => EXPECT_REFUSED,
+        1 => EXPECT_LINES,
+        2 => EXPECT_MOVED,
+        _ => EXPECT_VALUE,
+    }
+}
+
 fn window_form(second: &[u8]) -> u64 {
     match find(b"open closed", second) {
         0 => WINDOW_SWITCH,
@@ -157,7 +169,7 @@ pub(crate) fn form_of(first: &[u8], second: &[u8], third: &[u8], register: u64) 
         6 => window_form(second),
         7 => RESET,
         8 => REPLAY,
-        9 => either(second, b"refused lines", EXPECT_REFUSED, EXPECT_VALUE),
+        9 => expect_form(second),
         10 => either(second, b"begin end", REORDER_BEGIN, REORDER),
         _ => ANY,
     }

@@ -154,6 +154,7 @@ www
 wn
 wwn
 wwf
+wwn
 ww
 ww
 

@@ -32,20 +32,22 @@ pub(crate) const FAILED_REFUSED: u64 = 9;
 
 pub(crate) const FAILED_LINES: u64 = 10;
 
+pub(crate) const FAILED_MOVED: u64 = 11;
+
 // A clash, behind the name of its cell (see block.rt).
-pub(crate) const CLASH_BITS: u64 = 11;
+pub(crate) const CLASH_BITS: u64 = 12;
 
-pub(crate) const FREE: u64 = 12;
+pub(crate) const FREE: u64 = 13;
 
-pub(crate) const CLASHES: u64 = 13;
+pub(crate) const CLASHES: u64 = 14;
 
 // The last line: with no expectation, and with some.
-pub(crate) const COUNTS: u64 = 14;
+pub(crate) const COUNTS: u64 = 15;
 
-pub(crate) const JUDGED: u64 = 15;
+pub(crate) const JUDGED: u64 = 16;
 
 // Before the output of a file of several.
-pub(crate) const HEADER: u64 = 16;
+pub(crate) const HEADER: u64 = 17;
 
 // The rest are of the table of put_error. A file that cannot be read or written, UNREAD and UNWRITTEN for any other reason.
 pub(crate) const NO_FILE: u64 = 1;
@@ -197,8 +199,8 @@ pub(crate) fn put_line(out: &mut [u8], at: usize, n: u64, values: [u64; 5], text
         out,
         at,
         b"
-# ok 0x$ &
-# refused # &
+# ok 0x$ & 0x$
+# refused # & 0x$
 # replayed # &
 # refused # & at #
 # met
@@ -207,6 +209,7 @@ pub(crate) fn put_line(out: &mut [u8], at: usize, n: u64, values: [u64; 5], text
 # FAILED expected refused # got 0x$
 # FAILED expected refused # got refused #
 # FAILED expected lines & got lines &
+# FAILED expected moved 0x$ got moved 0x$
  0x$
 # free #
 # clashes~ #

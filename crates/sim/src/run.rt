@@ -4,6 +4,7 @@ use crate::block::put_clashes;
 use crate::counts::counted;
 use crate::counts::more;
 use crate::forms::EXPECT_LINES;
+use crate::forms::EXPECT_MOVED;
 use crate::forms::EXPECT_REFUSED;
 use crate::forms::EXPECT_VALUE;
 use crate::forms::REORDER_BEGIN;
@@ -18,6 +19,7 @@ use crate::print::CLASHES;
 use crate::print::COUNTS;
 use crate::print::EARLY;
 use crate::print::FAILED_LINES;
+use crate::print::FAILED_MOVED;
 use crate::print::FAILED_REFUSED;
 use crate::print::FAILED_REFUSED_VALUE;
 use crate::print::FAILED_VALUE;
@@ -56,10 +58,11 @@ pub(crate) struct Run {
     errors: u64,
     passed: u64,
     failed: u64,
-    // The last step's read value, its refusal number or 0, and its lines as flags (see lines.rt).
+    // The last step's read value, its refusal number or 0, its lines as flags (see lines.rt), and the bits that it moved.
     value: u64,
     refusal: u64,
     lines: u64,
+    moved: u64,
     // A line was in error since the last step.
     after_error: bool,
     // The line that began the open block, or 0, and how many writes the block has.
@@ -75,7 +78,7 @@ pub(crate) struct Run {
 
 // The form of the expectation that the last step meets where one of a form is judged.
 fn form_met(form: u64, refusal: u64) -> u64 {
-    if form == EXPECT_LINES {
+    if EXPECT_LINES <= form {
         return form;
     }
     if refusal == 0 {
@@ -85,11 +88,12 @@ fn form_met(form: u64, refusal: u64) -> u64 {
 }
 
 // What the last step answered, as an expectation of a form says it.
-fn got_of(form: u64, outcome: u64, lines: u64) -> u64 {
-    if form == EXPECT_LINES {
-        return lines;
+fn got_of(form: u64, outcome: u64, lines: u64, moved: u64) -> u64 {
+    match form {
+        EXPECT_LINES => lines,
+        EXPECT_MOVED => moved,
+        _ => outcome,
     }
-    outcome
 }
 
 // The line for an expectation of a form that the last step does not meet.
@@ -97,7 +101,8 @@ fn line_failed(form: u64, refusal: u64) -> u64 {
     match form {
         EXPECT_VALUE => line_for(refusal, FAILED_VALUE, FAILED_VALUE_REFUSED),
         EXPECT_REFUSED => line_for(refusal, FAILED_REFUSED_VALUE, FAILED_REFUSED),
-        _ => FAILED_LINES,
+        EXPECT_LINES => FAILED_LINES,
+        _ => FAILED_MOVED,
     }
 }
 
@@ -137,6 +142,7 @@ impl Run {
             value: 0,
             refusal: 0,
             lines: 0,
+            moved: 0,
             after_error: false,
             begin: 0,
             writes: 0,
@@ -155,11 +161,12 @@ impl Run {
     }
 
     // Counts a step, and keeps what it answered and left.
-    fn stepped(mut self, value: u64, refusal: u64, lines: u64, device: Device) -> Run {
+    fn stepped(mut self, value: u64, refusal: u64, lines: u64, moved: u64, device: Device) -> Run {
         self.device = device;
         self.value = value;
         self.refusal = refusal;
         self.lines = all(lines);
+        self.moved = moved;
         self.steps = more(self.steps);
         self.refused = counted(self.refused, refusal);
         self.after_error = false;
@@ -173,7 +180,13 @@ impl Run {
         let answer = stepped.answer;
         let next = stepped.device;
         let outcome = answer.outcome;
-        self.stepped(outcome.data(), outcome.number(), answer.lines(), next)
+        self.stepped(
+            outcome.data(),
+            outcome.number(),
+            answer.lines(),
+            answer.moved,
+            next,
+        )
     }
 
     // Puts what the last step answered.
@@ -182,7 +195,13 @@ impl Run {
             out,
             self.at,
             line_for(self.refusal, OK, REFUSED),
-            [self.line, self.value | self.refusal, self.lines, 0, 0],
+            [
+                self.line,
+                self.value | self.refusal,
+                self.lines,
+                self.moved,
+                0,
+            ],
             b"",
         );
         self
@@ -214,7 +233,7 @@ impl Run {
         self
     }
 
-    // Replays a capture, which is a step of the value 0 unless a file is at fault.
+    // Replays a capture, which is a step with the value 0 and the word 0, unless a file is at fault.
     fn replay(self, s: &[u8], out: &mut [u8]) -> Run {
         let device = self.device;
         let replay = replay_file(device, word_at(s, 1), word_at(s, 2));
@@ -222,9 +241,9 @@ impl Run {
             return self.in_error(replay.error, REPLAY, word_at(s, replay.word), out);
         }
         let next = replay.device;
-        let shown = next.answered(Outcome::Value(0));
+        let shown = next.answered(Outcome::Value(0), 0);
         let answer = shown.answer;
-        self.stepped(0, replay.refusal, answer.lines(), next)
+        self.stepped(0, replay.refusal, answer.lines(), 0, next)
             .put_replayed(replay.length | replay.refusal, replay.place, out)
     }
 
@@ -237,7 +256,8 @@ impl Run {
 
     // Judges an expectation by the last step.
     fn expect(mut self, form: u64, wanted: u64, out: &mut [u8]) -> Run {
-        let got = got_of(form, self.value | self.refusal, as_many(self.lines, wanted));
+        let lines = as_many(self.lines, wanted);
+        let got = got_of(form, self.value | self.refusal, lines, self.moved);
         let missed = (form_met(form, self.refusal) ^ form) | (got ^ wanted);
         self.at = put_line(
             out,
@@ -293,7 +313,7 @@ impl Run {
         match values[0] {
             BUS_READ..=WINDOW_CLOSED => self.step_error(values),
             REPLAY => line_for(self.begin, NONE, UNLISTED),
-            EXPECT_VALUE..=EXPECT_LINES => expect_error(self.begin, self.steps, self.after_error),
+            EXPECT_VALUE..=EXPECT_MOVED => expect_error(self.begin, self.steps, self.after_error),
             REORDER_BEGIN => line_for(self.begin, NONE, NESTED),
             REORDER_END => line_for(self.begin, NO_BEGIN, NONE),
             _ => NONE,
@@ -319,7 +339,7 @@ impl Run {
         match values[0] {
             BUS_READ..=WINDOW_CLOSED => self.step_or_keep(values, block, out),
             REPLAY => self.replay(s, out),
-            EXPECT_VALUE..=EXPECT_LINES => self.expect(values[0], wanted(values), out),
+            EXPECT_VALUE..=EXPECT_MOVED => self.expect(values[0], wanted(values), out),
             REORDER_BEGIN => self.begin_block(),
             REORDER_END => self.end_block(block, out),
             _ => self,

@@ -39,14 +39,15 @@ fn row_step(row: [u64; 7], x: u64) -> Step {
     }
 }
 
-// The checksum with an answer: the value or the refusal number, and the twelve lines.
+// The checksum with an answer: the value or the refusal number, the twelve lines, and the bits that were moved.
 fn answer_folded(sum: u64, a: Answer) -> u64 {
     let outcome = a.outcome;
     let word = match outcome {
         Outcome::Value(value) => value,
         Outcome::Refused(refusal) => refusal_number(refusal) << 56,
     };
-    ((sum << 7) | (sum >> 57)) ^ word ^ (a.lines() << 52)
+    let moved = (a.moved << 29) | (a.moved >> 35);
+    ((sum << 7) | (sum >> 57)) ^ word ^ (a.lines() << 52) ^ moved
 }
 
 // The checksum with a word of the end state. Its many operations keep the compiler from unrolling the loop over the routes: unrolled, each

@@ -1,2 +1,3 @@
 pub mod Lines
 mod Settle
+pub mod Moved

@@ -3,6 +3,7 @@
 ghost use mathlib.Core.Path.{_≡_};
 ghost use Rattle.node.specs.Sources as nodes;
 ghost use Rattle.bridge.specs.Sources.{whichOf};
+ghost use Rattle.tree.specs.Moved.{withMoved};
 ghost use Rattle.tree.specs.Tree.{actedOf, appliedOf, freshOf, gateRead, gateWeight, gateWritten, linesOf, movedOf, readOf, resetOf, unsettledOf, withBridge, withGate, withLevels, withNode};
 ghost use Rattle.tree.specs.Private.{watchedBefore, watchedOf, watchedSettled};
 use answers::Outcome;
@@ -43,6 +44,12 @@ pub enum Change {
 pub enum Act {
     Write(Write),
     Change(Change),
+}
+
+// A tree after an act, and the bits that the act moved (request Q-8).
+pub struct Acted {
+    pub tree: Tree,
+    pub moved: u64,
 }
 
 // What settling needs of the tree before an act.
@@ -171,36 +178,70 @@ impl Tree {
         self
     }
 
+    fn with(self, moved: u64) -> Acted
+        ensures { λ r. ⌜ r ≡ record { tree = self; moved = moved } ⌝ }
+    {
+        Acted {
+            tree: self,
+            moved: moved,
+        }
+    }
+
+    fn bridge_acted(self, applied: bridge::Applied) -> Acted
+        ensures { λ r. ⌜ r ≡ record { tree = withBridge self (applied .bridge); moved = applied .moved } ⌝ }
+    {
+        let bridge = applied.bridge;
+        self.with_bridge(bridge).with(applied.moved)
+    }
+
+    fn node_acted(self, applied: node::Applied) -> Acted
+        ensures { λ r. ⌜ r ≡ record { tree = withNode self (applied .node); moved = applied .moved } ⌝ }
+    {
+        let node = applied.node;
+        self.with_node(node).with(applied.moved)
+    }
+
+    // The gate is bit 48, by whichever offset it was written.
+    fn gate_acted(self, mask: bool, bit: bool) -> Acted
+        ensures { λ r. ⌜ r ≡ withMoved self (appliedOf self (Write.Gate mask bit)) (Act.Write (Write.Gate mask bit)) ⌝ }
+    {
+        let new = bits::merge1(self.gate, mask, bit);
+        self.with_gate(new.word)
+            .with(gate_read(new.moved, 0x1_0000_0000_0000))
+    }
+
     // What a plain write itself moves.
-    fn applied(self, write: Write) -> Tree
-        ensures { λ r. ⌜ r ≡ appliedOf self write ⌝ }
+    fn applied(self, write: Write) -> Acted
+        ensures { λ r. ⌜ r ≡ withMoved self (appliedOf self write) (Act.Write write) ⌝ }
     {
         let b = self.bridge;
         let n = self.node;
         match write {
-            Write::Bridge(effect) => self.with_bridge(b.applied(effect)),
-            Write::Gate { mask, bit } => self.with_gate(bits::merge1(self.gate, mask, bit)),
-            Write::Node(effect) => self.with_node(n.applied(effect)),
+            Write::Bridge(effect) => self.bridge_acted(b.applied(effect)),
+            Write::Gate { mask, bit } => self.gate_acted(mask, bit),
+            Write::Node(effect) => self.node_acted(n.applied(effect)),
         }
     }
 
-    // What any other change itself moves; the bridge's own cells have settled.
-    fn moved(self, change: Change) -> Tree
-        ensures { λ r. ⌜ r ≡ movedOf self change ⌝ }
+    // What any other change itself moves; the bridge's own cells have settled. An input change is no write: it has no word.
+    fn moved(self, change: Change) -> Acted
+        ensures { λ r. ⌜ r ≡ withMoved self (movedOf self change) (Act.Change change) ⌝ }
     {
         let b = self.bridge;
         let n = self.node;
         match change {
-            Change::Bridge(change) => self.with_bridge(b.changed(change)),
-            Change::Input { level, source } => self.with_bridge(b.input(source, level)),
-            Change::Node(change) => self.with_node(n.moved(change)),
-            Change::NodeInput { level, source } => self.with_node(n.levelled(source, level)),
+            Change::Bridge(change) => self.bridge_acted(b.changed(change)),
+            Change::Input { level, source } => self.with_bridge(b.input(source, level)).with(0),
+            Change::Node(change) => self.node_acted(n.moved(change)),
+            Change::NodeInput { level, source } => {
+                self.with_node(n.levelled(source, level)).with(0)
+            }
         }
     }
 
     // The tree after an act, before it settles.
-    fn unsettled(self, act: Act) -> Tree
-        ensures { λ r. ⌜ r ≡ unsettledOf self act ⌝ }
+    fn unsettled(self, act: Act) -> Acted
+        ensures { λ r. ⌜ r ≡ withMoved self (unsettledOf self act) act ⌝ }
     {
         match act {
             Act::Write(write) => self.applied(write),
@@ -256,10 +297,12 @@ impl Tree {
         self.with_node(n.settled(node, self.watched(node.edge)))
     }
 
-    // The tree after an act, and what follows from it.
-    pub fn acted(self, act: Act) -> Tree
-        ensures { λ r. ⌜ r ≡ actedOf self act ⌝ }
+    // The tree after an act and what follows from it, and the bits of the cell that then differ: what follows moves none of them.
+    pub fn acted(self, act: Act) -> Acted
+        ensures { λ r. ⌜ r ≡ withMoved self (actedOf self act) act ⌝ }
     {
-        self.unsettled(act).settled(self.before())
+        let after = self.unsettled(act);
+        let tree = after.tree;
+        tree.settled(self.before()).with(after.moved)
     }
 }

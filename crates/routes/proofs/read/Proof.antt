@@ -8,6 +8,7 @@ read-spec =
     (tie.spec
     (λ c. search needs)  -- slice-aggregate-byte-at
     (λ c κs. search needs)  -- byte-at-requires
+    (λ c. search needs)  -- cast-held
     (λ c κs. search needs)  -- held-requires
     (λ c. cc)  -- returns
     )

@@ -1,5 +1,5 @@
 use Rattle.bridge.specs.Changes.{changedOf}
-use Rattle.bits.proofs.Tests.{tests}
+use Rattle.bridge.proofs.Moved.{settled-cell}
 use borrow.Author.Needs.{needs}
 use Rattle.bridge.proofs.Bridge.changed.Statement.{statement}
 use Rattle.bridge.proofs.Bridge.changed.Tie as tie
@@ -12,5 +12,6 @@ changed-spec =
     (λ c κs. search needs)  -- moved-requires
     (λ c κs. search needs)  -- before-requires
     (λ c κs. search needs)  -- settled-requires
-    (λ c. search (tests, ← c .settled .ensures, ← c .before .before2 .ensures, ← c .before .before .moved .ensures))  -- returns
+    (λ c κs. search needs)  -- with-requires
+    (λ c. rw (c .with .ensures, c .before .settled .ensures, c .before .before .before2 .ensures, c .before .before .before .before .moved .ensures, settled-cell))  -- returns
     )

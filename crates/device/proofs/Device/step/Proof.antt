@@ -14,5 +14,5 @@ step-spec =
     (λ c κs. search needs)  -- class-of-requires
     (λ c κs. search needs)  -- next-requires
     (λ c κs. search needs)  -- answered-requires
-    (λ c. rw (c .answered .ensures, c .before .next .ensures, c .before .before .class-of .ensures, class-next, c .before .before .before .outcome .ensures, c .before .before .before .before .decide .ensures))  -- returns
+    (λ c. rw (c .answered .ensures, c .before .before .next .ensures, c .before .before .before .class-of .ensures, class-next, c .before .before .before .before .outcome .ensures, c .before .before .before .before .before .decide .ensures))  -- returns
     )

@@ -1,4 +1,4 @@
-use mathlib.Core.Path.{_∙_}
+use Rattle.tree.proofs.Moved.{acted-cell}
 use Rattle.tree.proofs.Settle.{acted-by}
 use borrow.Author.Needs.{needs}
 use Rattle.tree.proofs.Tree.acted.Statement.{statement}
@@ -11,5 +11,6 @@ acted-spec =
     (λ c κs. search needs)  -- unsettled-requires
     (λ c κs. search needs)  -- before-requires
     (λ c κs. search needs)  -- settled-requires
-    (λ c. c .settled .ensures ∙ rw (c .before .before2 .ensures, c .before .before .unsettled .ensures) (acted-by _ _))  -- returns
+    (λ c κs. search needs)  -- with-requires
+    (λ c. rw (c .with .ensures, c .before .settled .ensures, c .before .before .before2 .ensures, c .before .before .before .before .unsettled .ensures, acted-by, acted-cell))  -- returns
     )

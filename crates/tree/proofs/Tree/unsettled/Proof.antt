@@ -1,5 +1,4 @@
 use Rattle.tree.specs.Tree.{unsettledOf}
-use Rattle.bits.proofs.Tests.{tests}
 use borrow.Author.Needs.{needs}
 use Rattle.tree.proofs.Tree.unsettled.Statement.{statement}
 use Rattle.tree.proofs.Tree.unsettled.Tie as tie
@@ -13,6 +12,6 @@ unsettled-spec =
     (λ c κs. search needs)  -- applied-requires
     (λ c. search needs)  -- enum-known-act-2
     (λ c κs. search needs)  -- moved-requires
-    (λ c. search (tests, ← c .applied .ensures, c .before .before .act .given .1))  -- returns
-    (λ c. search (tests, ← c .moved .ensures, c .before .before .act2 .given .1))  -- returns-2
+    (λ c. rw (c .applied .ensures, c .before .before .act .given .1))  -- returns
+    (λ c. rw (c .moved .ensures, c .before .before .act2 .given .1))  -- returns-2
     )

@@ -1,0 +1,3 @@
+mod Table
+mod Again
+pub mod Moved
