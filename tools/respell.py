@@ -16,7 +16,7 @@ USE = re.compile(r"^(?:pub |ghost )?use ([^\s{]+?)\.\{([^}]*)\}", re.M)
 ALIAS = re.compile(r"^(?:pub |ghost )?use Rattle\.(\w+)\S* as ([\w-]+)", re.M)
 # A lemma that would have the name of the definition that it is about gets `_lem`, as in the library; two words have a field's or a lemma's snake case, and get another.
 LEMMAS = """
-access-plan admitted-plan all-bytes any-send bus-messages clash-bits class-next freq-sent inputs-noted judged-plan known-noted node-on node-plan none-moved
+access-plan admitted-plan all-bytes any-send bit-and bit-or bit-xor bus-messages clash-bits class-next freq-sent inputs-noted judged-plan known-noted node-on node-plan none-moved
 own-offset step-at to-core to-pin with-mail words-in words-on write-four written-plan
 """.split()
 OTHERWISE = {n: n.replace("-", "_") + "_lem" for n in LEMMAS} | {"secondOpen": "is_second_open", "inBytes": "in_written_bytes"}

@@ -12,7 +12,7 @@ use borrow.Table.Steps.{cases}
 use borrow.Author.Tests.{ne_eqb, eqb-true, eqb-false}
 use Rattle.bits.specs.Bits.{bit, first, put}
 use Rattle.bits.proofs.Words.{bit_shr, is_word, word_lt}
-use Rattle.bits.proofs.Operations.{bit_and}
+use Rattle.bits.proofs.Operations.{bit_and_lem}
 use Rattle.bits.proofs.Some.{some_bit, some_at}
 
 pub first_cong : (k : ℕ) {f g : ℕ → Bool} → ((i : ℕ) → i < k → f i ≡ g i) → first k f ≡ first k g
@@ -77,11 +77,11 @@ even w e =
 pub bit_clear : (k w i : ℕ) → i < k → bit (bit_and w (w - 1)) i ≡ cond (eqb i (first k (bit w))) false (bit w i)
 unfolding first
 bit_clear zero w i h = absurd (omega arith)
-bit_clear (suc k) w zero h = cases (bit w 0) (λ e. rw (bit_and, e) (odd w e).0) (λ e. rw (bit_and, e, eqb-zero-suc))
+bit_clear (suc k) w zero h = cases (bit w 0) (λ e. rw (bit_and_lem, e) (odd w e).0) (λ e. rw (bit_and_lem, e, eqb-zero-suc))
 bit_clear (suc k) w (suc i) h =
     cases (bit w 0)
-    (λ e. rw bit_and (simp (e, bit_suc, eqb-suc-zero, (odd w e).1) (and_self (bit (w / 2) i))))
-    (λ e. rw bit_and (simp (e, bit_suc, eqb-suc-suc, even w e) (rw bit_and at (bit_clear k (w / 2) i (omega arith)))))
+    (λ e. rw bit_and_lem (simp (e, bit_suc, eqb-suc-zero, (odd w e).1) (and_self (bit (w / 2) i))))
+    (λ e. rw bit_and_lem (simp (e, bit_suc, eqb-suc-suc, even w e) (rw bit_and_lem at (bit_clear k (w / 2) i (omega arith)))))
 
 pub clear_lowest : (k w : ℕ) → w < 2 ^ k → bit_and w (w - 1) ≡ put k w (first k (bit w)) false
 unfolding put

@@ -12,7 +12,7 @@ use borrow.Table.Steps.{cases}
 use borrow.Author.Tests.{eq-eqb, eqb-false, lt-ltb, ne_eqb}
 use Rattle.bits.specs.Bits.{bit, digit, word, some, first, put}
 use Rattle.bits.proofs.Words.{bit_mod, bit_zero, bit_word, is_word, word_lt}
-use Rattle.bits.proofs.Operations.{bit_or, bit_ones, bit_place}
+use Rattle.bits.proofs.Operations.{bit_or_lem, bit_ones, bit_place}
 use Rattle.bits.proofs.Cond.{cond_ap}
 use Rattle.bits.proofs.Some.{some_cong, some_none, some_or, some_split}
 use Rattle.bits.proofs.Taut.{taut}
@@ -61,7 +61,7 @@ module _ {k n : ℕ} {f : ℕ → ℕ → Bool} where
   pub rest_next : {which w r x : ℕ} → Rest k n f which w r → (w ≡ 0 → ⊥) → x ≡ word k (f (first n (bit w))) → Rest k n f which (put n w (first n (bit w)) false) (bit_or r x)
   rest_next {which} {w} {r} o z e =
       let p = first_set n o.left z
-      in rw e record { left = put_lt n w _ false; small = or_lt k _ _ o.small (word_lt k _); whole = λ j l. rw (bit_or, bit_word k _ j l, or_assoc, ← picked_split n f w (first n (bit w)) j p.0 p.1) (o.whole j l) }
+      in rw e record { left = put_lt n w _ false; small = or_lt k _ _ o.small (word_lt k _); whole = λ j l. rw (bit_or_lem, bit_word k _ j l, or_assoc, ← picked_split n f w (first n (bit w)) j p.0 p.1) (o.whole j l) }
 
   -- what is still to look at adds nothing
   rest_end : {which w r : ℕ} → Rest k n f which w r → ((j : ℕ) → j < k → bit r j ≡ (bit r j || picked n f w j)) → r ≡ word k (picked n f which)
