@@ -13,7 +13,6 @@ struct core {
     uint32_t status;
     uint32_t enable;
     uint64_t mail[4];
-    uint32_t frequency; // five bits; no step reads them
 };
 
 // Bit i of each word and byte i of the routes belong to source i.
@@ -77,7 +76,7 @@ struct answer {
 #define WINDOW_SIZE 0x1500
 
 enum { GATE = 0x0420, GATE_HIGH = 0x0424, STATUS = 0x1000, ENABLE = 0x1004, SET = 0x1008, CLEAR = 0x100c,
-       MAIL = 0x1020, MAIL_END = 0x1040, IPI_SEND = 0x1040, MAIL_SEND = 0x1048, FREQ_SEND = 0x1058, ANY_SEND = 0x1158, CORES_END = 0x1200,
+       MAIL = 0x1020, MAIL_END = 0x1040, IPI_SEND = 0x1040, MAIL_SEND = 0x1048, CORES_END = 0x1200,
        ENTRY = 0x1400, ENTRY_END = 0x1420, INTISR = 0x1420, INTEN = 0x1424, INTENSET = 0x1428, INTENCLR = 0x142c, INTEDGE_NODE = 0x1434,
        CORE0_INTISR = 0x1440, CORE1_INTISR = 0x1448, PER_CORE_INTISR = 0x1010 };
 
@@ -186,7 +185,7 @@ static enum refusal core_write(struct core *c, uint64_t offset, uint64_t width, 
     return ACCEPTED;
 }
 
-// The sends to a core's own cells.
+// The sends.
 
 static enum refusal ipi_send(struct device *d, uint64_t width, uint64_t value, uint64_t *moved)
 {
@@ -231,24 +230,6 @@ static enum refusal mail_send(struct device *d, uint64_t width, uint64_t value, 
     word = &d->core[target].mail[half / 2];
     *moved = (*word ^ value >> 32 << shift) & written;
     *word ^= *moved;
-    return ACCEPTED;
-}
-
-// The cell has byte 0 alone, which bit 27 masks.
-static enum refusal freq_send(struct device *d, uint64_t width, uint64_t value, uint64_t *moved)
-{
-    uint64_t target = value >> 16 & 0x3ff;
-
-    if (width != 4)
-        return BAD_WIDTH;
-    if (value > UINT32_MAX)
-        return BAD_VALUE;
-    if (target > 1)
-        return NO_CORE;
-    if (!(value >> 27 & 1)) {
-        *moved = d->core[target].frequency ^ (value & 31);
-        d->core[target].frequency = value & 31;
-    }
     return ACCEPTED;
 }
 
@@ -440,42 +421,15 @@ static enum refusal node_input(struct node *n, uint64_t source, bool level)
     return ACCEPTED;
 }
 
-// The send to any register: four bytes written in the target's private window, where no send is. A byte that is not written is written back as it is,
-// and as 0 where a 1 sets or clears.
-static enum refusal any_send(struct device *d, uint64_t width, uint64_t value, uint64_t *moved)
-{
-    uint64_t target = value >> 16 & 0x3ff;
-    uint64_t offset = value & 0xffff;
-    uint32_t written = written_bytes(value >> 27 & 15);
-    uint32_t data = value >> 32 & written;
-
-    if (width != 8)
-        return BAD_WIDTH;
-    if (target > 1)
-        return NO_CORE;
-    if (offset == PER_CORE_INTISR)
-        return NO_RIGHT;
-    if (offset >= ENTRY) {
-        if (offset == INTEDGE_NODE)
-            data |= d->node.edge & ~written;
-        return node_write(&d->node, offset, 4, data, moved);
-    }
-    if (offset == ENABLE)
-        data |= d->core[target].enable & ~written;
-    else if (is_mail(offset))
-        data |= (uint32_t)(d->core[target].mail[(offset - MAIL) / 8] >> offset % 8 * 8) & ~written;
-    return core_write(&d->core[target], offset, 4, data, moved);
-}
-
 // The private windows.
 
 static enum refusal private_read(const struct device *d, const struct step *s, uint64_t *value)
 {
     if (s->unit > 1)
         return NO_CORE;
-    if (s->place == IPI_SEND || s->place == FREQ_SEND)
+    if (s->place == IPI_SEND)
         return s->width != 4 ? BAD_WIDTH : NO_RIGHT;
-    if (s->place == MAIL_SEND || s->place == ANY_SEND)
+    if (s->place == MAIL_SEND)
         return s->width != 8 ? BAD_WIDTH : NO_RIGHT;
     if (s->place == PER_CORE_INTISR)
         return node_read(d, s->unit == 0 ? CORE0_INTISR : CORE1_INTISR, s->width, value);
@@ -492,10 +446,6 @@ static enum refusal private_write(struct device *d, const struct step *s, uint64
         return ipi_send(d, s->width, s->value, moved);
     if (s->place == MAIL_SEND)
         return mail_send(d, s->width, s->value, moved);
-    if (s->place == FREQ_SEND)
-        return freq_send(d, s->width, s->value, moved);
-    if (s->place == ANY_SEND)
-        return any_send(d, s->width, s->value, moved);
     if (s->place == PER_CORE_INTISR)
         return node_write(&d->node, CORE0_INTISR, s->width, s->value, moved);
     if (s->place >= ENTRY)
@@ -825,7 +775,6 @@ static uint64_t state_folded(uint64_t sum, const struct device *d)
         sum = folded(sum, d->core[c].enable);
         for (int i = 0; i < 4; i++)
             sum = folded(sum, d->core[c].mail[i]);
-        sum = folded(sum, d->core[c].frequency);
     }
     sum = folded(sum, b->mask);
     sum = folded(sum, b->msi);

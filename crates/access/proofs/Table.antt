@@ -1,4 +1,4 @@
--- The laws of table lookup: a moved table, two tables one after the other, whose rows lie in different ranges, and what holds of every row.
+-- The laws of table lookup: a moved table, and two tables one after the other, whose rows lie in different ranges.
 use Prim.Native.Nat.{ℕ, ◌+◌, ◌≤◌, ◌<◌}
 use mathlib.Core.Path.{◌≡◌, refl, sym, ap}
 use mathlib.Core.Logic.{◌⊎◌, inl, inr, ⊎_elim}
@@ -69,10 +69,6 @@ false_of : (b : Bool) → T (not b) → b ≡ false
 false_of false t = refl
 false_of true t = absurd t
 
-true_of : (b : Bool) → T b → b ≡ true
-true_of true t = refl
-true_of false t = absurd t
-
 -- two tables one after the other, where no row of the first says that nothing is there: the second has what the first has not
 module _ {A : Type 0} (none : A) (missing : A → Bool) (m : missing none ≡ true) where
   abbrev pub filled : List (Row A) → Bool
@@ -85,17 +81,3 @@ module _ {A : Type 0} (none : A) (missing : A → Bool) (m : missing none ≡ tr
   lookup_or (r ∷ rs) qs t o =
       let p = and_yes (not (missing r.entry)) (filled rs) t
       in cases (eqb o r.offset) (λ e. rw (e, false_of (missing r.entry) p.0)) (λ e. rw e (lookup_or rs qs p.1 o))
-
--- what holds of every row, by its offset, holds of what is found
-module _ {A : Type 0} (holds : ℕ → A → Bool) where
-  abbrev pub every : List (Row A) → Bool
-  every [] = true
-  every (r ∷ rs) = holds r.offset r.entry && every rs
-
-  pub lookup_every : (none : A) (o : ℕ) → holds o none ≡ true → (rs : List (Row A)) → T (every rs) → holds o (lookup none rs o) ≡ true
-  lookup_every none o n [] t = n
-  lookup_every none o n (r ∷ rs) t =
-      let p = and_yes (holds r.offset r.entry) (every rs) t
-      in cases (eqb o r.offset)
-      (λ e. rw (e, eqb-true o r.offset e) (true_of (holds r.offset r.entry) p.0))
-      (λ e. rw e (lookup_every none o n rs p.1))

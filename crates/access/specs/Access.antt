@@ -1,10 +1,7 @@
--- The rights and widths of a register, the refusals that every access to it may meet (01, "Refusal numbers", 4, 5 and 6), and the bytes that a write
--- writes (request Q-9).
+-- The rights and widths of a register, and the refusals that every access to it may meet (01, "Refusal numbers", 4, 5 and 6).
 --   permitted   its rights allow the access     fitting   the value fits the width
 --   listed      its widths have the width       access_refusals   4, 5, 6
---   all_bytes    the bits of all bytes           in_written_bytes   the bits of a mask in the bytes that are written
 use Rattle.std.specs.Prelude.{ℕ, ◌^◌, Bool, true, cond, not, ◌||◌, List, [], ◌∷◌, eqb, ltb}
-use Rattle.bits.specs.Bits.{select}
 use Rattle.access.specs.declared.Access.{Access}
 use Rattle.access.specs.declared.Rights.{Rights}
 use Rattle.access.specs.declared.Rights.TheVariants.{Read, Write, Both}
@@ -37,11 +34,3 @@ access_refusals access width write value =
     ∷ Right when not (permitted access.rights write)  -- 5
     ∷ Value when not (fitting width value)  -- 6
     ∷ []
-
--- A write names the bytes that it writes, by their bits: all of them, but for the write that an ANY_Send makes.
-abbrev pub all_bytes : ℕ
-all_bytes = 0xffffffffffffffff
-
--- a write gives values to the bits of its mask in those bytes alone
-abbrev pub in_written_bytes : ℕ → ℕ → ℕ
-in_written_bytes written mask = select 64 written mask 0

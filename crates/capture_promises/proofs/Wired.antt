@@ -176,7 +176,7 @@ module _ {a b : Bool} where
 
 -- ---- the devices
 
-ipi_line : (a : Bool) → cores.line_of (record { status = digit a; enable = 1; mail = replicate 4 0; frequency = 0 }) ≡ a
+ipi_line : (a : Bool) → cores.line_of (record { status = digit a; enable = 1; mail = replicate 4 0 }) ≡ a
 unfolding cores.line_of some bit
 ipi_line true = refl
 ipi_line false = refl

@@ -15,8 +15,8 @@ use Rattle.capture.specs.Replay.{text_outcome, text_place, dump_of, replay_of, b
 -- No source is masked, each goes to output 0 in level mode but source 3, which is in edge mode, and the gate is open.
 unfoldable pub device : Device
 device = record {
-  core0 = record { status = 0; enable = 0; mail = replicate 4 0; frequency = 0 };
-  core1 = record { status = 0; enable = 0; mail = replicate 4 0; frequency = 0 };
+  core0 = record { status = 0; enable = 0; mail = replicate 4 0 };
+  core1 = record { status = 0; enable = 0; mail = replicate 4 0 };
   tree = record {
     bridge = record { mask = 0; msi = 0; edge = 8; latch = 0; soft = 0; level = 0; auto = 0; turn = 0; routes = replicate 64 1 };
     gate = true;
@@ -117,8 +117,8 @@ AsWritten = map filled rooms ≡ rooms
 -- Sources 2 and 3 alone are unmasked; 2 goes to output 0 and 3 to output 1. Enable lets bit 0 of Status through, which gives each core's IPI line.
 unfoldable pub wired_device : Bool → Bool → Device
 wired_device ipi0 ipi1 = record {
-  core0 = record { status = digit ipi0; enable = 1; mail = replicate 4 0; frequency = 0 };
-  core1 = record { status = digit ipi1; enable = 1; mail = replicate 4 0; frequency = 0 };
+  core0 = record { status = digit ipi0; enable = 1; mail = replicate 4 0 };
+  core1 = record { status = digit ipi1; enable = 1; mail = replicate 4 0 };
   tree = record {
     bridge = record { mask = 0xfffffffffffffff3; msi = 0; edge = 0; latch = 0; soft = 0; level = 0; auto = 0; turn = 0; routes = 0 ∷ 0 ∷ 1 ∷ 2 ∷ replicate 60 0 };
     gate = true;

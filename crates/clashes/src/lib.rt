@@ -55,7 +55,6 @@ fn core_spot(block: u64, cell: ipi_registers::Cell) -> Spot
         ipi_registers::Cell::Status => one(block, 0, 32),
         ipi_registers::Cell::Enable => one(block, 1, 32),
         ipi_registers::Cell::MailBox(i) => one_of(block, 2, i, 4, 64),
-        ipi_registers::Cell::Frequency => one(block, 3, 5),
     }
 }
 

@@ -10,7 +10,7 @@ use Rattle.bits.specs.Writes.{moved}
 use Rattle.bits.proofs.Arrays.{set_differs}
 use Rattle.bits.proofs.Writes.{differ_held, differ_same}
 use Rattle.ipi_registers.specs.declared.Cell.{Cell}
-use Rattle.ipi_registers.specs.declared.Cell.TheVariants.{Status, Enable, MailBox, Frequency}
+use Rattle.ipi_registers.specs.declared.Cell.TheVariants.{Status, Enable, MailBox}
 use Rattle.cores.specs.declared.Applied.{Applied}
 use Rattle.cores.specs.declared.Core.{Core}
 use Rattle.cores.specs.Core.{on}
@@ -21,7 +21,6 @@ abbrev carried : Core → Cell → ℕ → ℕ → ℕ
 carried c Status m v = moved 32 c.status m v
 carried c Enable m v = moved 32 c.enable m v
 carried c (MailBox i) m v = cond (ltb i 4) (moved 64 (get_or c.mail i 0) m v) 0
-carried c Frequency m v = moved 5 c.frequency m v
 
 cell_moved : (c : Core) → length c.mail ≡ 4 → (cell : Cell) (m v : ℕ) → carried c cell m v ≡ differ 64 (cell_of c cell) (cell_of (on c cell m v) cell)
 unfolding cell_of
@@ -30,7 +29,6 @@ cell_moved c h Enable m v = sym (differ_held 32 64 _ _ (omega arith))
 cell_moved c h (MailBox i) m v =
     ap (λ (w : ℕ). cond (ltb i 4) w 0) (sym (differ_held 64 64 (get_or c.mail i 0) (merge 64 (get_or c.mail i 0) m v) (omega arith)))
     ∙ set_differs 64 4 (held 64) c.mail h i (merge 64 (get_or c.mail i 0) m v)
-cell_moved c h Frequency m v = sym (differ_held 5 64 _ _ (omega arith))
 
 abbrev with : Core → ℕ → Applied
 with c moved = record { core = c; moved = moved }

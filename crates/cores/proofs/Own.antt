@@ -10,7 +10,7 @@ use Rattle.cores.specs.declared.Core.{Core}
 
 module _ (c : Core) where
   abbrev with_mail_lem : List ℕ → Core
-  with_mail_lem l = record { status = c.status; enable = c.enable; mail = l; frequency = c.frequency }
+  with_mail_lem l = record { status = c.status; enable = c.enable; mail = l }
 
   pub own_mail : (own : Bool) (i new : ℕ) → with_mail_lem (set c.mail i (cond own new (get_or c.mail i 0))) ≡ cond own (with_mail_lem (set c.mail i new)) c
   own_mail own i new =

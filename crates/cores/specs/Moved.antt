@@ -5,14 +5,13 @@ use Rattle.bits.specs.Bits.{differ, held}
 use Rattle.cores.specs.declared.Core.{Core}
 use Rattle.cores.specs.declared.Applied.{Applied}
 use Rattle.ipi_registers.specs.declared.Cell.{Cell}
-use Rattle.ipi_registers.specs.declared.Cell.TheVariants.{Status, Enable, MailBox, Frequency}
+use Rattle.ipi_registers.specs.declared.Cell.TheVariants.{Status, Enable, MailBox}
 
--- Status and Enable, 32 bits each; a mailbox, 64 bits, whichever half is written; the five bits of the frequency cell
+-- Status and Enable, 32 bits each; a mailbox, 64 bits, whichever half is written
 unfoldable pub cell_of : Core → Cell → ℕ
 cell_of c Status = held 32 c.status
 cell_of c Enable = held 32 c.enable
 cell_of c (MailBox i) = held 64 (get_or c.mail i 0)
-cell_of c Frequency = held 5 c.frequency
 
 abbrev pub with_moved : Core → Core → Cell → Applied
 with_moved before after cell = record { core = after; moved = differ 64 (cell_of before cell) (cell_of after cell) }

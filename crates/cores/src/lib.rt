@@ -10,7 +10,6 @@ pub struct Core {
     pub status: u32,
     pub enable: u32,
     pub mail: [u64; 4],
-    pub frequency: u32,
 }
 
 // A core after a write, and the bits that the write moved (request Q-8).
@@ -72,17 +71,6 @@ impl Core {
             Register::MailBoxHigh(i) => mailbox(mail, i) / 0x1_0000_0000,
             Register::IpiSend => 0,
             Register::MailSend => 0,
-            Register::FreqSend => 0,
-            Register::AnySend => 0,
-        }
-    }
-
-    fn with(self, moved: u64) -> Applied
-        ensures { result ≡ record { core = self; moved = moved } }
-    {
-        Applied {
-            core: self,
-            moved: moved,
         }
     }
 
@@ -98,24 +86,28 @@ impl Core {
             Cell::Status => {
                 let new = bits::merge32(self.status, mask, bits);
                 self.status = bits::choose32(own, new.word, self.status);
-                self.with(bits::choose(own, new.moved, 0))
+                Applied {
+                    core: self,
+                    moved: bits::choose(own, new.moved, 0),
+                }
             }
             Cell::Enable => {
                 let new = bits::merge32(self.enable, mask, bits);
                 self.enable = bits::choose32(own, new.word, self.enable);
-                self.with(bits::choose(own, new.moved, 0))
+                Applied {
+                    core: self,
+                    moved: bits::choose(own, new.moved, 0),
+                }
             }
             Cell::MailBox(i) => {
                 let old = mailbox(mail, i);
                 let new = bits::merge(old, mask, bits);
                 let all = put_mailbox(mail, i, bits::choose(own, new.word, old));
                 self.mail = all;
-                self.with(bits::choose(own, bits::choose(i < 4, new.moved, 0), 0))
-            }
-            Cell::Frequency => {
-                let new = bits::merge32(self.frequency, mask, bits);
-                self.frequency = bits::choose32(own, new.word % 32, self.frequency);
-                self.with(bits::choose(own, new.moved % 32, 0))
+                Applied {
+                    core: self,
+                    moved: bits::choose(own, bits::choose(i < 4, new.moved, 0), 0),
+                }
             }
         }
     }

@@ -12,7 +12,7 @@ use Rattle.device.specs.declared.Stepped.{Stepped}
 -- ---- the fresh state and the reset values
 
 abbrev fresh_core : Core
-fresh_core = record { status = 0; enable = 0; mail = replicate 4 0; frequency = 0 }
+fresh_core = record { status = 0; enable = 0; mail = replicate 4 0 }
 
 -- masks 1 (table 8-2)
 abbrev masks : ℕ

@@ -94,13 +94,11 @@ impl Device {
                 status: 0,
                 enable: 0,
                 mail: [0; 4],
-                frequency: 0,
             },
             core1: Core {
                 status: 0,
                 enable: 0,
                 mail: [0; 4],
-                frequency: 0,
             },
             tree: tree,
             second_open: opened,

@@ -85,19 +85,7 @@ fn same_hidden(a: Tree, b: Tree) -> bool {
         && m.level == n.level
 }
 
-// The frequencies of both cores are the same.
-fn same_frequencies(a: Device, b: Device) -> bool {
-    let p = a.core0;
-    let q = b.core0;
-    let m = a.core1;
-    let n = b.core1;
-    p.frequency == q.frequency && m.frequency == n.frequency
-}
-
-// Every cell is the same in both: those that no read shows are the latches, the input levels, the turns, the frequencies and the window switch.
+// Every cell is the same in both: those that no read shows are the latches, the input levels, the turns and the window switch.
 pub(crate) fn same_cells(a: Device, b: Device) -> bool {
-    same_hidden(a.tree, b.tree)
-        && same_frequencies(a, b)
-        && a.second_open == b.second_open
-        && same_reads(a, b)
+    same_hidden(a.tree, b.tree) && a.second_open == b.second_open && same_reads(a, b)
 }

@@ -3,21 +3,18 @@ use crate::show;
 use clashes::Clash;
 use reorder::Cell;
 
-// No cell, core 0's Status, its frequency, and any other.
+// No cell, core 0's Status, and any other.
 pub(crate) const FREE: u64 = 0;
 
 pub(crate) const STATUS: u64 = 1;
 
-pub(crate) const FREQUENCY: u64 = 2;
-
-const OTHER: u64 = 3;
+const OTHER: u64 = 2;
 
 fn message_number(cell: ipi_registers::Cell) -> u64 {
     match cell {
         ipi_registers::Cell::Status => STATUS,
         ipi_registers::Cell::Enable => OTHER,
         ipi_registers::Cell::MailBox(_) => OTHER,
-        ipi_registers::Cell::Frequency => FREQUENCY,
     }
 }
 
@@ -45,19 +42,15 @@ pub(crate) fn bits_of(clash: Clash) -> u64 {
     }
 }
 
-fn show_cell(cell: u64) {
-    match cell {
-        STATUS => show::text(b"clash in core0.Status "),
-        FREQUENCY => show::text(b"clash in core0.Frequency "),
-        _ => show::text(b"clash in another cell "),
-    }
-}
-
 pub(crate) fn show(cell: u64, bits: u64) {
     if cell == FREE {
         show::text(b"free");
         return;
     }
-    show_cell(cell);
+    if cell == STATUS {
+        show::text(b"clash in core0.Status ");
+    } else {
+        show::text(b"clash in another cell ");
+    }
     show::hex(bits);
 }

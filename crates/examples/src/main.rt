@@ -1,6 +1,6 @@
 // Runs the examples of 01 ("Examples on each side") that the proved table leaves, and says of each whether the device does what 01 says, or the request
-// that changed it (11: Q-1, 13: Q-6). Then come facts of section 8.2, by the readings of Q-2, searches (Q-5), turns (Q-6), the bits that steps
-// moved (Q-8) and remote writes (Q-9).
+// that changed it (11: Q-1, 13: Q-6). Then come facts of section 8.2, by the readings of Q-2, searches (Q-5), turns (Q-6) and the bits that steps
+// moved (Q-8).
 // The parts of an example are lettered in 01's order; those that are missing are in the table, crates/promises/specs/Examples.antt. 8a to 8f,
 // 9b and 12b are there too, and so is 12c with other mail sends: they are run here again.
 mod cells;
@@ -16,7 +16,6 @@ use kinds::{
     which, window,
 };
 use run::Run;
-use steps::Step;
 
 // The bit of source 63.
 const SOURCE_63: u64 = 0x8000_0000_0000_0000;
@@ -35,8 +34,6 @@ const SOURCE_10: u64 = 0x400;
 const INTISR: u64 = 0x1fe01420;
 
 const INTENCLR: u64 = 0x1fe0142c;
-
-const INTEDGE: u64 = 0x1fe01434;
 
 // The line of core 1 and pin 2.
 const CORE_1_INT2: u64 = 0b100_0000_0000;
@@ -199,17 +196,12 @@ fn node_level(run: Run) -> Run {
         .reads(bus_read(INTISR, 4), SOURCE_10)
 }
 
-// Source 10 by edge, after its input went up and down.
-fn caught(run: Run) -> Run {
-    run.fresh()
-        .after(bus_write(INTEDGE, 4, SOURCE_10))
-        .after(node_input(10, true))
-        .after(node_input(10, false))
-}
-
 // An edge source requests until Intenclr, enabled or not.
 fn node_edge(run: Run) -> Run {
-    caught(run)
+    run.fresh()
+        .after(bus_write(0x1fe01434, 4, SOURCE_10))
+        .after(node_input(10, true))
+        .after(node_input(10, false))
         .reads(bus_read(INTISR, 4), SOURCE_10)
         .accepts(bus_write(INTENCLR, 4, SOURCE_10))
         .reads(bus_read(INTISR, 4), 0)
@@ -276,73 +268,6 @@ fn moved_alone(run: Run) -> Run {
         .moves(bus_write(0x1fe01004, 4, 0x100000000), 0)
 }
 
-// ANY_Send and FREQ_Send, by core 0.
-fn any_send(value: u64) -> Step {
-    private_write(0, 0x1158, 8, value)
-}
-
-fn freq_send(value: u64) -> Step {
-    private_write(0, 0x1058, 4, value)
-}
-
-// Of an ANY_Send the bytes that are not masked: the others of Enable stay, and those of IPI_Set and IPI_Clear do nothing.
-fn remote(run: Run) -> Run {
-    run.fresh()
-        .after(private_write(1, 0x1004, 4, 0x80000001))
-        .accepts(any_send(0x0000ff00_68011004))
-        .reads(private_read(1, 0x1004, 4), 0x8000ff01)
-        .moves(any_send(0xffffffff_58011008), 0xff0000)
-        .moves(any_send(0xffffffff_2001100c), 0)
-        .reads(private_read(1, 0x1000, 4), 0xff0000)
-        .moves(any_send(0xffffffff_7801100c), 0)
-}
-
-// A byte that is not written loses no latch: neither by Intenclr, nor by Intedge.
-fn remote_latch(run: Run) -> Run {
-    caught(run)
-        .accepts(any_send(0xffffffff_1001142c))
-        .reads(bus_read(INTISR, 4), SOURCE_10)
-        .moves(any_send(0x00000000_10011434), 0)
-        .reads(bus_read(INTISR, 4), SOURCE_10)
-        .moves(any_send(0x00000000_68011434), SOURCE_10)
-        .reads(bus_read(INTISR, 4), 0)
-}
-
-// The frequency, of which only the bits that are moved can be seen.
-fn frequency(run: Run) -> Run {
-    run.fresh()
-        .moves(freq_send(0x00010015), 0x15)
-        .moves(freq_send(0x00010015), 0)
-        .moves(freq_send(0x0801000a), 0)
-        .refuses(private_read(1, 0x1050, 4), 2)
-}
-
-// Where several refusals apply, the first in the order of the request.
-fn remote_refused(run: Run) -> Run {
-    run.fresh()
-        .refuses(private_write(0, 0x1158, 4, 0x00011004), 4)
-        .refuses(private_read(0, 0x1058, 4), 5)
-        .refuses(freq_send(0x1_00020015), 6)
-        .refuses(any_send(0x000000ff_00021014), 1)
-        .refuses(any_send(0x00011004_00011158), 2)
-        .refuses(any_send(0x000000ff_00012004), 2)
-        .refuses(any_send(0x00000042_0001140a), 4)
-        .refuses(any_send(0x000000ff_00011000), 5)
-}
-
-// Two frequencies that differ in one bit clash there; opposite data in different bytes do not.
-fn remote_orders(run: Run) -> Run {
-    let slow = freq_send(0x00000011);
-    let fast = freq_send(0x00000013);
-    let byte_0 = any_send(0x000000ff_70011004);
-    let byte_1 = any_send(0x0000ff00_68011004);
-    run.fresh()
-        .orders(slow, fast, false)
-        .clashes(slow, fast, clash::FREQUENCY, 2)
-        .orders(byte_0, byte_1, true)
-        .clashes(byte_0, byte_1, clash::FREE, 0)
-}
-
 fn main() {
     let run = Run::start();
     let run = example_5(run);
@@ -365,10 +290,5 @@ fn main() {
     let run = turns(run);
     let run = moved(run);
     let run = moved_alone(run);
-    let run = remote(run);
-    let run = remote_latch(run);
-    let run = frequency(run);
-    let run = remote_refused(run);
-    let run = remote_orders(run);
     run.show_totals();
 }

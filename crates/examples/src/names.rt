@@ -142,41 +142,6 @@ Q-8 write 0x1fe01004, 4 = 0x100000000
     );
 }
 
-fn show_fourth(n: u64) {
-    show_line(
-        b"Q-9 ANY_Send to core 1's Enable, byte 1
-Q-9 core 1 Enable
-Q-9 ANY_Send to core 1's IPI_Set, byte 2
-Q-9 ANY_Send to core 1's IPI_Clear, bytes 0, 1 and 3
-Q-9 core 1 Status
-Q-9 ANY_Send to core 1's IPI_Clear, all bytes masked
-Q-9 ANY_Send to Intenclr, byte 1 masked
-Q-9 the latch of source 10, Intisr
-Q-9 ANY_Send to Intedge, byte 1 masked
-Q-9 Intisr
-Q-9 ANY_Send to Intedge, byte 1
-Q-9 Intisr
-Q-9 FREQ_Send to core 1
-Q-9 the same again
-Q-9 FREQ_Send, its byte masked
-Q-9 private 0x1050
-Q-9 ANY_Send at width 4
-Q-9 FREQ_Send, read
-Q-9 FREQ_Send to core 2, value past width 4
-Q-9 ANY_Send to core 2, no register
-Q-9 ANY_Send to an ANY_Send
-Q-9 ANY_Send to 0x2004
-Q-9 ANY_Send to Entry 10
-Q-9 ANY_Send to Status
-Q-9 two FREQ_Sends to core 0
-Q-9 two FREQ_Sends to core 0
-Q-9 two ANY_Sends to core 1's Enable, bytes 0 and 1
-Q-9 two ANY_Sends to core 1's Enable, bytes 0 and 1
-",
-        n,
-    );
-}
-
 // Prints the name of comparison n.
 pub(crate) fn show_name(n: u64) {
     if n < 30 {
@@ -187,9 +152,5 @@ pub(crate) fn show_name(n: u64) {
         show_second(n - 30);
         return;
     }
-    if n < 87 {
-        show_third(n - 57);
-        return;
-    }
-    show_fourth(n - 87);
+    show_third(n - 57);
 }

@@ -1,18 +1,14 @@
--- What a write to a register does (01, "Bus window", "Private window" and "Which writes the order rule covers"; request Q-9): bits of one cell
--- take values.
+-- What a write to a register does (01, "Bus window", "Private window" and "Which writes the order rule covers"): bits of one cell take values.
 --   target_of   the core whose cells the write reaches      effect_of   the cell, the bits that are given values, and the values
---   ipi_sent, mail_sent, freq_sent   three sends, field by field     sent_of   the write that the fourth, ANY_Send, makes
---   masked_of   an effect of which some bytes are written
-use Rattle.std.specs.Prelude.{ℕ, ◌+◌, ◌*◌, ◌/◌, ◌%◌, ◌^◌, cond, eqb}
-use Rattle.bits.specs.Bits.{bit, field}
-use Rattle.access.specs.Access.{in_written_bytes}
+--   ipi_sent, mail_sent   the two sends, field by field
+use Rattle.std.specs.Prelude.{ℕ, ◌*◌, ◌/◌, ◌%◌, ◌^◌, cond, eqb}
+use Rattle.bits.specs.Bits.{field}
 use Rattle.lanes.specs.Bytes.{written_bytes}
 use Rattle.ipi_registers.specs.declared.Register.{Register}
-use Rattle.ipi_registers.specs.declared.Register.TheVariants.{Status, Enable, Set, Clear, MailBox, MailBoxHigh, IpiSend, MailSend, FreqSend, AnySend}
+use Rattle.ipi_registers.specs.declared.Register.TheVariants.{Status, Enable, Set, Clear, MailBox, MailBoxHigh, IpiSend, MailSend}
 use Rattle.ipi_registers.specs.declared.Cell.{Cell}
 use Rattle.ipi_registers.specs.declared.Cell.TheVariants as cell
 use Rattle.ipi_registers.specs.declared.Effect.{Effect}
-use Rattle.ipi_registers.specs.declared.Sent.{Sent}
 
 abbrev effect : Cell → ℕ → ℕ → Effect
 effect c m b = record { cell = c; mask = m; bits = b }
@@ -23,8 +19,6 @@ effect c m b = record { cell = c; mask = m; bits = b }
 unfoldable pub target_of : Register → ℕ → ℕ → ℕ
 target_of IpiSend core value = field value 25 16
 target_of MailSend core value = field value 25 16
-target_of FreqSend core value = field value 25 16
-target_of AnySend core value = core  -- its target issues the write that it makes, and is judged there
 target_of Status core value = core
 target_of Enable core value = core
 target_of Set core value = core
@@ -48,23 +42,6 @@ half_of h mask bits = effect (cell.MailBox (h / 2)) (in_half h mask) (in_half h 
 unfoldable pub mail_sent : ℕ → Effect
 mail_sent value = half_of (field value 4 2) (written_bytes 4 (field value 30 27)) (field value 63 32)
 
--- FREQ_Send: bits 4..0 the value, bit 27 masks byte 0, the one byte that the cell has
-unfoldable pub freq_sent : ℕ → Effect
-freq_sent value = effect cell.Frequency (cond (bit value 27) 0 0x1f) (field value 4 0)
-
--- four bytes in both halves of a cell: so they serve a high half of a mailbox too
-abbrev pub in_both : ℕ → ℕ
-in_both x = x * 2 ^ 32 + x
-
--- ANY_Send: bits 63..32 data, bits 30..27 byte mask, bits 25..16 target core, bits 15..0 offset
-unfoldable pub sent_of : ℕ → Sent
-sent_of value = record {
-  core = field value 25 16;
-  offset = field value 15 0;
-  value = field value 63 32;
-  written = in_both (written_bytes 4 (field value 30 27));
-}
-
 -- ---- every register
 
 unfoldable pub effect_of : Register → ℕ → ℕ → Effect
@@ -77,9 +54,3 @@ effect_of (MailBox i) width value =
 effect_of (MailBoxHigh i) width value = effect (cell.MailBox i) 0xffffffff00000000 (in_half 1 value)
 effect_of IpiSend width value = ipi_sent value
 effect_of MailSend width value = mail_sent value
-effect_of FreqSend width value = freq_sent value
-effect_of AnySend width value = effect cell.Status 0 0  -- it does what the write does that it makes, see crates/steps
-
--- of a write that writes some bytes: those bits alone
-unfoldable pub masked_of : ℕ → Effect → Effect
-masked_of written e = effect e.cell (in_written_bytes written e.mask) e.bits

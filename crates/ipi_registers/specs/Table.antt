@@ -1,6 +1,6 @@
--- The registers of one core by offset (01, "Bus window" and "Private window"; request Q-9; tables 7-1, 7-2, 7-5 and 7-6 of the manual).
---   table   the message cells           entry_at   the register that starts at an offset
---   sends   the four send registers     send_at    the same of the private window's send registers
+-- The registers of one core by offset (01, "Bus window" and "Private window"; tables 7-1, 7-2 and 7-5 of the manual).
+--   table   the message cells          entry_at   the register that starts at an offset
+--   sends   the two send registers     send_at    the same of the private window's send registers
 use Rattle.std.specs.Prelude.{ℕ, List, [], ◌∷◌}
 use Rattle.access.specs.declared.Rights.{Rights}
 use Rattle.access.specs.declared.Rights.TheVariants.{Read, Write, Both}
@@ -8,7 +8,7 @@ use Rattle.access.specs.declared.Widths.{Widths}
 use Rattle.access.specs.declared.Widths.TheVariants.{Four, Eight, FourOrEight}
 use Rattle.access.specs.Table.{Row, row, lookup}
 use Rattle.ipi_registers.specs.declared.Register.{Register}
-use Rattle.ipi_registers.specs.declared.Register.TheVariants.{Status, Enable, Set, Clear, MailBox, MailBoxHigh, IpiSend, MailSend, FreqSend, AnySend}
+use Rattle.ipi_registers.specs.declared.Register.TheVariants.{Status, Enable, Set, Clear, MailBox, MailBoxHigh, IpiSend, MailSend}
 use Rattle.ipi_registers.specs.declared.Found.{Found}
 use Rattle.ipi_registers.specs.declared.Found.TheVariants.{Nothing, At}
 
@@ -33,14 +33,8 @@ table =
     ∷ row 0x103c (entry (MailBoxHigh 3) Both Four)
     ∷ []
 
--- table 7-5, then table 7-6
 unfoldable pub sends : List (Row Found)
-sends =
-    row 0x1040 (entry IpiSend Write Four)
-    ∷ row 0x1048 (entry MailSend Write Eight)
-    ∷ row 0x1058 (entry FreqSend Write Four)
-    ∷ row 0x1158 (entry AnySend Write Eight)
-    ∷ []
+sends = row 0x1040 (entry IpiSend Write Four) ∷ row 0x1048 (entry MailSend Write Eight) ∷ []
 
 unfoldable pub entry_at : ℕ → Found
 entry_at offset = lookup Nothing table offset

@@ -1,7 +1,7 @@
-// Chapter 7: the inter-core interrupt and mailbox registers by offset, the four sends, and what a write to each does.
-ghost use Rattle.std.specs.Prelude.{◌≡◌, ◌+◌, ◌^◌, ◌<◌};
+// Chapter 7: the inter-core interrupt and mailbox registers by offset, the two sends, and what a write to each does.
+ghost use Rattle.std.specs.Prelude.{◌≡◌, ◌+◌, ◌<◌};
 ghost use Rattle.ipi_registers.specs.Table.{entry, entry_at, send_at};
-ghost use Rattle.ipi_registers.specs.Effect.{effect_of, freq_sent, half_of, in_both, in_half, ipi_sent, mail_sent, masked_of, sent_of, target_of};
+ghost use Rattle.ipi_registers.specs.Effect.{effect_of, half_of, in_half, ipi_sent, mail_sent, target_of};
 
 use access::{Access, Rights, Widths};
 
@@ -16,8 +16,6 @@ pub enum Register {
     MailBoxHigh(u64),
     IpiSend,
     MailSend,
-    FreqSend,
-    AnySend,
 }
 
 #[derive(Drop)]
@@ -38,7 +36,6 @@ pub enum Cell {
     Status,
     Enable,
     MailBox(u64),
-    Frequency,
 }
 
 // The bits of the cell that are in mask take the values in bits.
@@ -47,15 +44,6 @@ pub struct Effect {
     pub cell: Cell,
     pub mask: u64,
     pub bits: u64,
-}
-
-// The private write of four bytes that an ANY_Send makes: by which core, at which offset, the data, and the bits of the bytes that are written.
-#[derive(Drop)]
-pub struct Sent {
-    pub core: u64,
-    pub offset: u64,
-    pub value: u64,
-    pub written: u64,
 }
 
 fn entry_of(register: Register, rights: Rights, widths: Widths) -> Found
@@ -103,8 +91,6 @@ pub fn send_at(offset: u64) -> Found
     match offset {
         0x1040 => entry_of(Register::IpiSend, Rights::Write, Widths::Four),
         0x1048 => entry_of(Register::MailSend, Rights::Write, Widths::Eight),
-        0x1058 => entry_of(Register::FreqSend, Rights::Write, Widths::Four),
-        0x1158 => entry_of(Register::AnySend, Rights::Write, Widths::Eight),
         _ => Found::Nothing,
     }
 }
@@ -115,7 +101,7 @@ fn target_field(value: u64) -> u64
     value / 0x10000 % 0x400
 }
 
-// The core whose cells a write reaches: the target of a send, and else the core itself. That of an ANY_Send issues the write that it makes.
+// The core whose cells a write reaches: the target of a send, and else the core itself.
 pub fn target(register: Register, core: u64, value: u64) -> u64
     ensures { result ≡ target_of register core value }
 {
@@ -128,8 +114,6 @@ pub fn target(register: Register, core: u64, value: u64) -> u64
         Register::MailBoxHigh(_) => core,
         Register::IpiSend => target_field(value),
         Register::MailSend => target_field(value),
-        Register::FreqSend => target_field(value),
-        Register::AnySend => core,
     }
 }
 
@@ -188,38 +172,7 @@ fn mail_effect(value: u64) -> Effect
     )
 }
 
-// Five bits of byte 0, the one byte that the cell has.
-fn freq_effect(value: u64) -> Effect
-    ensures { result ≡ freq_sent value }
-{
-    effect_on(
-        Cell::Frequency,
-        bits::choose(bits::test(value, 27), 0, 0x1f),
-        value % 0x20,
-    )
-}
-
-// Four bytes in both halves of a cell: so they serve a high half of a mailbox too.
-fn in_both(bytes: u64) -> u64
-    requires { bytes < 2 ^ 32 }
-    ensures { result ≡ in_both bytes }
-{
-    bytes * 0x1_0000_0000 + bytes
-}
-
-// What an ANY_Send carries.
-pub fn any_sent(value: u64) -> Sent
-    ensures { result ≡ sent_of value }
-{
-    Sent {
-        core: target_field(value),
-        offset: value % 0x1_0000,
-        value: value / 0x1_0000_0000,
-        written: in_both(lanes::written_bytes(value / 0x800_0000 % 16)),
-    }
-}
-
-// What a write to a register does. No write to Status is accepted, and an ANY_Send does what the write does that it makes.
+// What a write to a register does. No write to Status is accepted.
 pub fn write_effect(register: Register, width: u64, value: u64) -> Effect
     ensures { result ≡ effect_of register width value }
 {
@@ -234,15 +187,5 @@ pub fn write_effect(register: Register, width: u64, value: u64) -> Effect
         }
         Register::IpiSend => ipi_effect(value),
         Register::MailSend => mail_effect(value),
-        Register::FreqSend => freq_effect(value),
-        Register::AnySend => effect_on(Cell::Status, 0, 0),
     }
-}
-
-// An effect of which the bits in `written` alone are done.
-pub fn masked(effect: Effect, written: u64) -> Effect
-    ensures { result ≡ masked_of written effect }
-{
-    let cell = effect.cell;
-    effect_on(cell, bits::select(written, effect.mask, 0), effect.bits)
 }

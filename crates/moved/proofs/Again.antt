@@ -7,7 +7,7 @@ use Rattle.bits.proofs.Arrays.{set_twice}
 use Rattle.bits.proofs.Taut.{taut}
 use Rattle.bits.proofs.Writes.{merge_held, merge_twice}
 use Rattle.ipi_registers.specs.declared.Cell as ipi
-use Rattle.ipi_registers.specs.declared.Cell.TheVariants.{Status, Enable, MailBox, Frequency}
+use Rattle.ipi_registers.specs.declared.Cell.TheVariants.{Status, Enable, MailBox}
 use Rattle.ipi_registers.specs.declared.Effect.{Effect}
 use Rattle.cores.specs.declared.Core.{Core}
 use Rattle.cores.specs.Core as cores
@@ -58,7 +58,6 @@ unfolding core.cell_of
 core_twice c Status m v = ap (held 32) (merge_twice 32 c.status m v)
 core_twice c Enable m v = ap (held 32) (merge_twice 32 c.enable m v)
 core_twice c (MailBox i) m v = ap (held 64) (set_twice 64 c.mail i m v)
-core_twice c Frequency m v = ap (held 5) (merge_twice 5 c.frequency m v)
 
 -- ---- the tree
 

@@ -18,7 +18,7 @@ use Rattle.windows.specs.declared.Place.{Place}
 use Rattle.windows.specs.declared.Place.TheVariants as place
 use Rattle.cores.specs.Moved as cores
 use Rattle.ipi_registers.specs.declared.Cell as ipi
-use Rattle.ipi_registers.specs.declared.Cell.TheVariants.{Status, Enable, MailBox, Frequency}
+use Rattle.ipi_registers.specs.declared.Cell.TheVariants.{Status, Enable, MailBox}
 use Rattle.cores.specs.declared.Core.{Core}
 use Rattle.bridge_registers.specs.declared.Cell as bridge-cell
 use Rattle.bridge_registers.specs.declared.Cell.TheVariants.{Mask, Msi, Route}
@@ -81,10 +81,10 @@ quiet_read (place.Node register) w d = refl
 quiet_read place.Gate w d = refl
 quiet_read place.GateHigh w d = refl
 
-quiet_access : (a : Admission) (w b v : ℕ) → Quiet (admitted_plan a w false b v)
+quiet_access : (a : Admission) (w v : ℕ) → Quiet (admitted_plan a w false v)
 unfolding admitted_plan access_plan cell_of
-quiet_access (admission.Refused reason) w b v d = refl
-quiet_access (admission.At p target) w b v d = quiet_read p w d
+quiet_access (admission.Refused reason) w v d = refl
+quiet_access (admission.At p target) w v d = quiet_read p w d
 
 quiet_planned : (v : Verdict) (p : Plan) → Quiet p → Quiet (planned v p)
 unfolding cell_of
@@ -96,8 +96,8 @@ unfolding decide_of bridge_plan input_plan node_input_plan cell_of tree.cell_of
 quiet o (step.BusWrite a w v) e = absurd (true≢false e)
 quiet o (step.PrivateWrite c f w v) e = absurd (true≢false e)
 quiet o (step.BridgeWrite r v) e = absurd (true≢false e)
-quiet o (step.BusRead a w) e = quiet_access _ w _ 0
-quiet o (step.PrivateRead c f w) e = quiet_access _ w _ 0
+quiet o (step.BusRead a w) e = quiet_access _ w 0
+quiet o (step.PrivateRead c f w) e = quiet_access _ w 0
 quiet o (step.BridgeRead r) e = quiet_planned (first_of (bridge_refusals r false 0)) _ (λ d. refl)
 quiet o (step.Input i l) e = quiet_planned (first_of (input_refusals i)) _ (λ d. refl)
 quiet o (step.NodeInput i l) e = quiet_planned (first_of (node_input_refusals i)) _ (λ d. refl)
@@ -130,7 +130,6 @@ unfolding cores.cell_of
 core_shown k Status = refl
 core_shown k Enable = refl
 core_shown k (MailBox i) = refl
-core_shown k Frequency = refl
 
 written_shown : (d : Device) (w : Write) → gives (tree_given w) ≡ true → tree.cell_of d.tree (act.Write w) ≡ shown_in d (tree_given w)
 unfolding tree_given tree.cell_of bridge.cell_of node.cell_of

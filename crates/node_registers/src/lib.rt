@@ -1,7 +1,7 @@
 // Section 8.2: the registers of the node's I/O interrupts by offset, and what a write to each does.
 ghost use Rattle.std.specs.Prelude.{◌≡◌};
 ghost use Rattle.node_registers.specs.Table.{entry_at, found, per_core_of};
-ghost use Rattle.node_registers.specs.Effect.{masked_of, written_of};
+ghost use Rattle.node_registers.specs.Effect.{written_of};
 
 use access::{Access, Rights, Widths};
 
@@ -104,24 +104,20 @@ fn changed(change: Change) -> Written
     Written::Changed(change)
 }
 
-// What a write to a register does, of the bytes whose bits are in `written`. No write to a status register or to Inten is accepted.
-pub fn write(register: Register, written: u64, value: u64) -> Written
-    ensures { result ≡ masked_of written (written_of register value) }
+// What a write to a register does. No write to a status register or to Inten is accepted.
+pub fn write(register: Register, value: u64) -> Written
+    ensures { result ≡ written_of register value }
 {
     match register {
         Register::Intisr => changed(Change::Nothing),
         Register::Inten => changed(Change::Nothing),
-        Register::Intenset => plain(Cell::Inten, bits::select(written, value, 0), value),
-        Register::Intenclr => plain(Cell::Inten, bits::select(written, value, 0), 0),
+        Register::Intenset => plain(Cell::Inten, value, value),
+        Register::Intenclr => plain(Cell::Inten, value, 0),
         Register::Intedge => changed(Change::Edge {
-            mask: bits::select(written, 0xffff_ffff, 0),
+            mask: 0xffff_ffff,
             bits: value,
         }),
         Register::CoreIntisr(_) => changed(Change::Nothing),
-        Register::Entry(source) => plain(
-            Cell::Entry(source),
-            bits::select(written, 0xf3, 0),
-            value,
-        ),
+        Register::Entry(source) => plain(Cell::Entry(source), 0xf3, value),
     }
 }

@@ -25,5 +25,5 @@ use Rattle.device.specs.Step.{next_of, outcome_of, step_of}
 use Rattle.promises.specs.Examples.{AsPrinted, examples, run_of}
 
 pub as_printed : AsPrinted
-unfolding examples run_of step_of next_of outcome_of outcome_data outcome_number answered_of start_of reset_of decide.decide_of decide.input_plan decide.bridge_plan decide.written_plan decide.admitted_plan decide.judged_plan decide.access_plan decide.read_plan decide.write_plan refusals.admission_of refusals.refusals_in refusals.bus_refusals refusals.private_refusals refusals.bridge_refusals refusals.input_refusals refusals.target_at access_refusals refusal_number fitting listed permitted located_at window_table messages_in bus_messages node_table alone_in table sends node-table.table effects.effect_of effects.masked_of effects.target_of effects.ipi_sent effects.mail_sent effects.in_half cores.applied_of cores.read_of cores.line_of registers.row_of registers.sized registers.distributed registers.written_of tree.with_levels tree.fresh_of tree.reset_of tree.read_of tree.gate_written tree.applied_of tree.moved_of tree.unsettled_of tree.settled_of tree.acted_of tree.lines_of node.drive_word node.pin_at node.pins_of nodes.settled_of sources.line_of sources.drive_word sources.request_word sources.in_service_word sources.read_of changes.applied_of changes.moved_of changes.levelled_of changes.latched_of changes.turned_of changes.settled_of changes.changed_of changes.input_of turns_of latched risen cleared written_bytes bit word merge put some
+unfolding examples run_of step_of next_of outcome_of outcome_data outcome_number answered_of start_of reset_of decide.decide_of decide.input_plan decide.bridge_plan decide.written_plan decide.admitted_plan decide.access_plan decide.read_plan decide.write_plan refusals.admission_of refusals.refusals_in refusals.bus_refusals refusals.private_refusals refusals.bridge_refusals refusals.input_refusals refusals.target_at access_refusals refusal_number fitting listed permitted located_at window_table messages_in bus_messages node_table alone_in table sends node-table.table effects.effect_of effects.target_of effects.ipi_sent effects.mail_sent effects.in_half cores.applied_of cores.read_of cores.line_of registers.row_of registers.sized registers.distributed registers.written_of tree.with_levels tree.fresh_of tree.reset_of tree.read_of tree.gate_written tree.applied_of tree.moved_of tree.unsettled_of tree.settled_of tree.acted_of tree.lines_of node.drive_word node.pin_at node.pins_of nodes.settled_of sources.line_of sources.drive_word sources.request_word sources.in_service_word sources.read_of changes.applied_of changes.moved_of changes.levelled_of changes.latched_of changes.turned_of changes.settled_of changes.changed_of changes.input_of turns_of latched risen cleared written_bytes bit word merge put some
 as_printed = refl

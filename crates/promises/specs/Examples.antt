@@ -66,10 +66,10 @@ refused n = record { refusal = n; value = 0; ipi0 = false; ipi1 = false; bridge0
 
 -- a core with Status and Enable; and with one mailbox filled
 abbrev cells : ℕ → ℕ → Core
-cells s e = record { status = s; enable = e; mail = replicate 4 0; frequency = 0 }
+cells s e = record { status = s; enable = e; mail = replicate 4 0 }
 
 abbrev mail : ℕ → ℕ → Core
-mail i v = record { status = 0; enable = 0; mail = set (replicate 4 0) i v; frequency = 0 }
+mail i v = record { status = 0; enable = 0; mail = set (replicate 4 0) i v }
 
 abbrev ones : ℕ
 ones = 0xffffffffffffffff

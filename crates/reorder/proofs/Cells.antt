@@ -15,7 +15,7 @@ use Rattle.order.specs.Viewed.{Block}
 use Rattle.order.specs.Places.{Sized}
 use Rattle.order.proofs.Places.{found, places_block, places_names, put_row, words_in, words_on}
 use Rattle.ipi_registers.specs.declared.Cell as ipi
-use Rattle.ipi_registers.specs.declared.Cell.TheVariants.{Status, Enable, MailBox, Frequency}
+use Rattle.ipi_registers.specs.declared.Cell.TheVariants.{Status, Enable, MailBox}
 use Rattle.cores.specs.declared.Core.{Core}
 use Rattle.cores.specs.Core as core
 use Rattle.bridge_registers.specs.declared.Cell.TheVariants.{Mask, Msi, Route}
@@ -51,7 +51,7 @@ apply d e = on d e.cell e.mask e.bits
 
 -- the names of the cells, row by row and block by block, as the table numbers them
 abbrev core_names : (ipi.Cell → Cell) → List (ℕ → Cell)
-core_names core = (λ i. core Status) ∷ (λ i. core Enable) ∷ (λ i. core (MailBox i)) ∷ (λ i. core Frequency) ∷ []
+core_names core = (λ i. core Status) ∷ (λ i. core Enable) ∷ (λ i. core (MailBox i)) ∷ []
 
 abbrev pub names : List (List (ℕ → Cell))
 names =
@@ -66,11 +66,9 @@ words_on_lem : (d : Device) (to : Cell) (m b : ℕ) → words_in row_of names (o
 words_on_lem d (Core0 Status) m b = refl
 words_on_lem d (Core0 Enable) m b = refl
 words_on_lem d (Core0 (MailBox i)) m b = refl
-words_on_lem d (Core0 Frequency) m b = refl
 words_on_lem d (Core1 Status) m b = refl
 words_on_lem d (Core1 Enable) m b = refl
 words_on_lem d (Core1 (MailBox i)) m b = refl
-words_on_lem d (Core1 Frequency) m b = refl
 words_on_lem d (Bridge Mask) m b = refl
 words_on_lem d (Bridge Msi) m b = refl
 words_on_lem d (Bridge (Route i)) m b = refl
@@ -96,11 +94,9 @@ pub placed : (c : Cell) → found row_of names (row_of c).block (row_of c).numbe
 placed (Core0 Status) = refl
 placed (Core0 Enable) = refl
 placed (Core0 (MailBox i)) = refl
-placed (Core0 Frequency) = refl
 placed (Core1 Status) = refl
 placed (Core1 Enable) = refl
 placed (Core1 (MailBox i)) = refl
-placed (Core1 Frequency) = refl
 placed (Bridge Mask) = refl
 placed (Bridge Msi) = refl
 placed (Bridge (Route i)) = refl
@@ -124,7 +120,6 @@ core_sized : (k : Core) → length k.mail ≡ 4 → (c : ipi.Cell) → length ((
 core_sized k h Status = refl
 core_sized k h Enable = refl
 core_sized k h (MailBox i) = h
-core_sized k h Frequency = refl
 
 pub sized : (d : Device) → Whole d → Sized row_of d
 sized d h (Core0 c) = core_sized d.core0 h.mail0 c
@@ -160,13 +155,11 @@ device_determined d e h k q s = λ i. record {
     status = s (Core0 Status) i;
     enable = s (Core0 Enable) i;
     mail = ext_get_or 0 d.core0.mail e.core0.mail (size (Core0 (MailBox 0))) (λ j l. s (Core0 (MailBox j))) i;
-    frequency = s (Core0 Frequency) i;
   };
   core1 = record {
     status = s (Core1 Status) i;
     enable = s (Core1 Enable) i;
     mail = ext_get_or 0 d.core1.mail e.core1.mail (size (Core1 (MailBox 0))) (λ j l. s (Core1 (MailBox j))) i;
-    frequency = s (Core1 Frequency) i;
   };
   tree = record {
     bridge = record {

@@ -1,4 +1,4 @@
--- The cells that plain writes reach (01, "The cells"; requests Q-2 and Q-9), as a table with a line for each; and the rest of the device, which no
+-- The cells that plain writes reach (01, "The cells"; request Q-2), as a table with a line for each; and the rest of the device, which no
 -- plain write changes. Neither has the latches of the node (section 8.2), which the order rule leaves out.
 --   core_row, bridge_row, gate_row, node_row   the table of each block: a cell's name, a number of its own, its index where it is one of several, how
 --                                          many there are, the bits of each, and the words in the block
@@ -8,7 +8,7 @@ use Rattle.std.specs.Prelude.{ℕ, Bool}
 use Rattle.bits.specs.Bits.{digit}
 use Rattle.order.specs.Places.{Row, in_block, one, one_of, same_cell, width_of, word_of}
 use Rattle.ipi_registers.specs.declared.Cell as ipi
-use Rattle.ipi_registers.specs.declared.Cell.TheVariants.{Status, Enable, MailBox, Frequency}
+use Rattle.ipi_registers.specs.declared.Cell.TheVariants.{Status, Enable, MailBox}
 use Rattle.cores.specs.declared.Core.{Core}
 use Rattle.bridge_registers.specs.declared.Cell as bridge-cell
 use Rattle.bridge_registers.specs.declared.Cell.TheVariants.{Mask, Msi, Route}
@@ -20,12 +20,11 @@ use Rattle.device.specs.declared.Device.{Device}
 use Rattle.reorder.specs.declared.Cell.{Cell}
 use Rattle.reorder.specs.declared.Cell.TheVariants.{Core0, Core1, Bridge, Gate, Node}
 
--- of a core: Status and Enable, 32 bits each; MailBox0 to MailBox3, 64 bits each; the frequency cell, five bits
+-- of a core: Status and Enable, 32 bits each; MailBox0 to MailBox3, 64 bits each
 abbrev pub core_row : ipi.Cell → Row Core
 core_row Status = one 0 32 (λ c. c.status)
 core_row Enable = one 1 32 (λ c. c.enable)
 core_row (MailBox i) = one_of 2 i 4 64 (λ c. c.mail)
-core_row Frequency = one 3 5 (λ c. c.frequency)
 
 -- of the bridge: a mask, a message enable and two route bits for each of its 64 sources
 abbrev pub bridge_row : bridge-cell.Cell → Row bridge.Bridge

@@ -1,4 +1,4 @@
--- Which writes the order rule covers, and what each gives (01, "Which writes the order rule covers"; requests Q-2 and Q-9).
+-- Which writes the order rule covers, and what each gives (01, "Which writes the order rule covers"; request Q-2).
 --   given_of    what a plan gives, where the rule covers it      listed_in, Listed   the writes that the rule covers
 --   effect_of   an effect on a cell, as the abstract rule has it  gives              the value that a write gives a bit
 use Rattle.std.specs.Prelude.{ℕ, ◌≡◌, Bool, true, false, cond, ◌&&◌, eqb}

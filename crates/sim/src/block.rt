@@ -34,7 +34,6 @@ fn put_core_cell(out: &mut [u8], at: usize, core: &[u8], cell: ipi_registers::Ce
         ipi_registers::Cell::Status => put(out, next, b"Status"),
         ipi_registers::Cell::Enable => put(out, next, b"Enable"),
         ipi_registers::Cell::MailBox(i) => put_indexed(out, next, b"MailBox", i),
-        ipi_registers::Cell::Frequency => put(out, next, b"Frequency"),
     }
 }
 

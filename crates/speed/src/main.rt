@@ -57,8 +57,7 @@ fn core_folded(sum: u64, core: Core) -> u64 {
     let mail = core.mail;
     let cells = folded(folded(sum, core.status as u64), core.enable as u64);
     let low = folded(folded(cells, mail[0]), mail[1]);
-    let high = folded(folded(low, mail[2]), mail[3]);
-    folded(high, core.frequency as u64)
+    folded(folded(low, mail[2]), mail[3])
 }
 
 fn wide(byte: u8) -> u64 {

@@ -14,16 +14,15 @@
 //     value  ((x ^ x << 32) & and) | or: what is written, and the level of an input. A window switch (kind 7) opens where it is not 0. A reset
 //            (kind 8) is one where it is 0, and opens the window elsewhere, so that resets are rare and the window is soon open again
 //
-// 4 rows of 64 are refused; in MESSAGES 3 are, and the second window, closed an eighth of the time, makes up the fourth. An ANY_Send is refused by its
-// offset in a third of a row of MESSAGES, and by its offset or its target in all but an eighteenth of a row of TREE. A search finds no source, and is refused, in a third of the cases
-// in SPARSE and hardly ever in DENSE.
+// 4 rows of 64 are refused; in MESSAGES 3 are, and the second window, closed an eighth of the time, makes up the fourth. A search finds no
+// source, and is refused, in a third of the cases in SPARSE and hardly ever in DENSE.
 // Counted over ten million steps (gcc -DCOUNTS): the gate is open for 0.87 of the steps of SPARSE and DENSE; pending are 2.2 sources in
 // SPARSE and 32.9 in DENSE, of which a walk that ends once both lines are high, sources in fixed mode first, looks at 1.5 and 9. In TREE the
 // gate is open as long, 1.9 sources of the bridge are pending, 6.3 of the node are enabled and 2.8 of those request; each pin is high for half
-// of the steps. In these three half of the sources are in turn mode; a turn bit moves in 3, 1.6 and 1.7 of a hundred steps.
+// of the steps. In these three half of the sources are in turn mode; a turn bit moves in 3, 1.6 and 1.8 of a hundred steps.
 pub(crate) const SEED: u64 = 0xbfd0273b10a6d4af;
 
-// Messages only: every message register of both cores by every path and width, the four sends with every byte mask.
+// Messages only: every message register of both cores by every path and width, both sends with every byte mask.
 pub(crate) const MESSAGES_FIRST: [[u64; 7]; 32] = [
     // Bus, first window.
     [0, 0, 0x1fe01000, 0x104, 4, 0, 0], // read Status, Enable
@@ -51,8 +50,8 @@ pub(crate) const MESSAGES_FIRST: [[u64; 7]; 32] = [
     [3, 0, 0x1020, 0x1c, 4, 0xffffffff, 0], // write a half
     [3, 0, 0x1040, 0, 4, 0xfc01ffff, 0], // IPI_Send
     [3, 0, 0x1048, 0, 8, 0xfffffffffc01ffff, 0], // Mail_Send
-    [3, 0, 0x1058, 0, 4, 0xfc01ffff, 0], // FREQ_Send
-    [3, 0, 0x1158, 0, 8, 0xfffffffffc01003c, 0x1000], // ANY_Send to Enable, Set, Clear, a half; five offsets of sixteen are refused 2 or 5
+    [3, 0, 0x1040, 0, 4, 0xfc01ffff, 0], // IPI_Send
+    [3, 0, 0x1048, 0, 8, 0xfffffffffc01ffff, 0], // Mail_Send
     // Core 1.
     [2, 1, 0x1000, 4, 4, 0, 0], // read Status, Enable
     [3, 1, 0x1004, 0, 4, 3, 0], // write Enable
@@ -66,8 +65,8 @@ pub(crate) const MESSAGES_FIRST: [[u64; 7]; 32] = [
 pub(crate) const MESSAGES_LAST: [[u64; 7]; 32] = [
     [3, 1, 0x1040, 0, 4, 0xfc01ffff, 0], // IPI_Send
     [3, 1, 0x1048, 0, 8, 0xfffffffffc01ffff, 0], // Mail_Send
-    [3, 1, 0x1058, 0, 4, 0xfc01ffff, 0], // FREQ_Send
-    [3, 1, 0x1158, 0, 8, 0xfffffffffc01001c, 0x1020], // ANY_Send to a half
+    [3, 1, 0x1040, 0, 4, 0xfc01ffff, 0], // IPI_Send
+    [3, 1, 0x1048, 0, 8, 0xfffffffffc01ffff, 0], // Mail_Send
     // Core 0 again.
     [2, 0, 0x1000, 4, 4, 0, 0], // read Status, Enable
     [3, 0, 0x1004, 0, 4, 0x10000, 0], // write Enable
@@ -225,7 +224,7 @@ pub(crate) const DENSE_LAST: [[u64; 7]; 32] = [
 ];
 
 // Inputs of both kinds down to the pins: a few bridge sources pending, the gate open, a few of the node's sources enabled and routed, edge
-// choices among them, those of the bridge's two lines too; some of the node's writes by ANY_Send.
+// choices among them, those of the bridge's two lines too.
 pub(crate) const TREE_LAST: [[u64; 7]; 32] = [
     // Bridge writes.
     [5, 0, 0, 0, 0, 0x8020040100804021, 0x7fdffbfeff7fbfde], // INT_MASK
@@ -243,14 +242,14 @@ pub(crate) const TREE_LAST: [[u64; 7]; 32] = [
     [0, 0, 0x1fe01400, 0x1f, 1, 0, 0], // Entry
     // Node writes.
     [1, 0, 0x1fe01428, 0, 4, 0x842108c7, 0], // Intenset
-    [3, 0, 0x1158, 0, 8, 0xfc010000, 0x842108c700001428], // ANY_Send to Intenset
+    [3, 0, 0x1428, 0, 4, 0x842108c7, 0], // Intenset
     [1, 0, 0x3ff0142c, 0, 4, 0xffffffff, 0], // Intenclr
-    [3, 1, 0x1158, 0, 8, 0xfc010000, 0x111111110000142c], // ANY_Send to Intenclr
+    [3, 1, 0x142c, 0, 4, 0x11111111, 0], // Intenclr
     [3, 0, 0x1434, 0, 4, 0x33333333, 0], // Intedge
     [1, 0, 0x1fe01400, 0x1f, 1, 0xff, 0], // Entry
     [3, 1, 0x1400, 0x1f, 1, 0xff, 0], // Entry
-    [3, 0, 0x1058, 0, 4, 0xfc01ffff, 0], // FREQ_Send
     // Any input of the bridge, and of the node but for sources 0 and 1, high or low.
+    [6, 0, 0, 0x3f, 0, 1, 0],
     [6, 0, 0, 0x3f, 0, 1, 0],
     [6, 0, 0, 0x3f, 0, 1, 0],
     [6, 0, 0, 0x3f, 0, 1, 0],
@@ -260,8 +259,8 @@ pub(crate) const TREE_LAST: [[u64; 7]; 32] = [
     [9, 0, 0x10, 0xf, 0, 1, 0],
     // A rare reset.
     [8, 0, 0, 0, 0, 0x3ff, 0],
-    // Refused 1, 2, 4, 5 or 6, and 7.
-    [3, 1, 0x1158, 0, 8, 0x33333333fc03057c, 0x1000], // ANY_Send to core 2 or 3, or to no register, a send, Entry, a status; one in 18 is accepted
+    // Refused 2, 4, 5 or 6, and 7.
+    [3, 1, 0x1430, 8, 4, 0xffffffff, 0], // no register
     [0, 0, 0x1fe01400, 0x1f, 4, 0, 0], // Entry at width 4
     [1, 0, 0x3ff01440, 8, 4, 0xffffffff, 0x100000000], // a status register
     [9, 0, 0, 0x21, 0, 1, 0], // source 0, 1, 32 or 33

@@ -1,2 +1,1 @@
-pub mod Remote
 pub mod Resets

@@ -4,11 +4,9 @@ use Prim.Native.Nat.{ℕ}
 use mathlib.Core.Path.{◌≡◌, refl, sym, ap, ◌∙◌}
 use mathlib.Core.Bool.{Bool, true, false, true≢false}
 use mathlib.Core.Logic.{◌⊎◌, inl, inr, ⊎_elim}
-use borrow.Table.Steps.{cases}
 use Rattle.access.specs.declared.Verdict.{Verdict}
 use Rattle.access.specs.declared.Verdict.TheVariants as verdict
 use Rattle.access.specs.Refusal.{first_of}
-use Rattle.access.specs.Access.{all_bytes}
 use Rattle.windows.specs.declared.Place.{Place}
 use Rattle.windows.specs.declared.Place.TheVariants.{Message, Node, Gate, GateHigh}
 use Rattle.admission.specs.declared.Admission.{Admission}
@@ -24,7 +22,7 @@ use Rattle.steps.specs.declared.Step.{Step}
 use Rattle.steps.specs.declared.Step.TheVariants as step
 use Rattle.steps.specs.declared.Plan.{Plan}
 use Rattle.steps.specs.declared.Plan.TheVariants.{Refuse, ReadCore, WriteCore, ReadTree, WriteTree, ChangeTree, Window, Reset}
-use Rattle.steps.specs.Decide.{access_plan, admitted_plan, any_send_at, bridge_plan, decide_of, input_plan, node_input_plan, node_plan, planned, read_plan, remote_plan, judged_plan, write_plan, written_plan}
+use Rattle.steps.specs.Decide.{access_plan, admitted_plan, bridge_plan, decide_of, input_plan, node_input_plan, node_plan, planned, read_plan, write_plan, written_plan}
 
 -- of each plan that an access, a bridge step or an input change can have, it says no
 abbrev pub switches : Plan → Bool
@@ -52,29 +50,21 @@ unfolding node_plan
 node_plan_lem (written.Plain effect) = refl
 node_plan_lem (written.Changed c) = refl
 
-access_plan_lem : (place : Place) (target width : ℕ) (write : Bool) (written value : ℕ) → switches (access_plan place target width write written value) ≡ false
+access_plan_lem : (place : Place) (target width : ℕ) (write : Bool) (value : ℕ) → switches (access_plan place target width write value) ≡ false
 unfolding access_plan read_plan write_plan
-access_plan_lem (Message register core) target width true written value = refl
-access_plan_lem (Node register) target width true written value = node_plan_lem (nodes.masked_of written (nodes.written_of register value))
-access_plan_lem Gate target width true written value = refl
-access_plan_lem GateHigh target width true written value = refl
-access_plan_lem (Message register core) target width false written value = refl
-access_plan_lem (Node register) target width false written value = refl
-access_plan_lem Gate target width false written value = refl
-access_plan_lem GateHigh target width false written value = refl
+access_plan_lem (Message register core) target width true value = refl
+access_plan_lem (Node register) target width true value = node_plan_lem (nodes.written_of register value)
+access_plan_lem Gate target width true value = refl
+access_plan_lem GateHigh target width true value = refl
+access_plan_lem (Message register core) target width false value = refl
+access_plan_lem (Node register) target width false value = refl
+access_plan_lem Gate target width false value = refl
+access_plan_lem GateHigh target width false value = refl
 
-admitted_plan_lem : (a : Admission) (width : ℕ) (write : Bool) (written value : ℕ) → switches (admitted_plan a width write written value) ≡ false
+admitted_plan_lem : (a : Admission) (width : ℕ) (write : Bool) (value : ℕ) → switches (admitted_plan a width write value) ≡ false
 unfolding admitted_plan
-admitted_plan_lem (Refused reason) width write written value = refl
-admitted_plan_lem (At place target) width write written value = access_plan_lem place target width write written value
-
-judged_plan_lem : (opened : Bool) (a : Admission) (width value : ℕ) → switches (judged_plan opened a width value) ≡ false
-unfolding judged_plan remote_plan access_plan
-judged_plan_lem opened (Refused reason) width value = refl
-judged_plan_lem opened (At place target) width value =
-    cases (any_send_at place)
-    (λ e. rw e (admitted_plan_lem _ 4 true _ _))
-    (λ e. rw e (access_plan_lem place target width true all_bytes value))
+admitted_plan_lem (Refused reason) width write value = refl
+admitted_plan_lem (At place target) width write value = access_plan_lem place target width write value
 
 written_plan_lem : (w : Written) → switches (written_plan w) ≡ false
 unfolding written_plan
@@ -93,10 +83,10 @@ other_plan p f e t = absurd (true≢false (sym t ∙ ap switches (sym e) ∙ f))
 
 pub only_switch : (opened : Bool) (s : Step) {p : Plan} → decide_of opened s ≡ p → switches p ≡ true → is_switch s
 unfolding decide_of bridge_plan input_plan node_input_plan
-only_switch opened (step.BusRead a width) = other_plan _ (admitted_plan_lem _ _ _ _ _)
-only_switch opened (step.BusWrite a width value) = other_plan _ (admitted_plan_lem _ _ _ _ _)
-only_switch opened (step.PrivateRead core offset width) = other_plan _ (admitted_plan_lem _ _ _ _ _)
-only_switch opened (step.PrivateWrite core offset width value) = other_plan _ (judged_plan_lem opened _ _ _)
+only_switch opened (step.BusRead a width) = other_plan _ (admitted_plan_lem _ _ _ _)
+only_switch opened (step.BusWrite a width value) = other_plan _ (admitted_plan_lem _ _ _ _)
+only_switch opened (step.PrivateRead core offset width) = other_plan _ (admitted_plan_lem _ _ _ _)
+only_switch opened (step.PrivateWrite core offset width value) = other_plan _ (admitted_plan_lem _ _ _ _)
 only_switch opened (step.BridgeRead register) = other_plan _ (judged (first_of (bridge_refusals register false 0)) _ refl)
 only_switch opened (step.BridgeWrite register value) = other_plan _ (judged (first_of (bridge_refusals register true value)) _ (written_plan_lem (written_of register value)))
 only_switch opened (step.Input source level) = other_plan _ (judged (first_of (input_refusals source)) _ refl)

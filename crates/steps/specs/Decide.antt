@@ -2,21 +2,13 @@
 -- that applies, or a plan.
 --   read_plan, write_plan, access_plan                     what an accepted bus or private access does
 --   node_plan, written_plan                               a plain write or another change
---   target_offset, remote_plan                            the private write that an ANY_Send makes (request Q-9)
---   judged_plan, private_write_plan                        any private write
 --   window_plan, bridge_plan, input_plan, node_input_plan, which_plan    what becomes of each kind of step
 --   decide_of                                            the plan of a step
 use Rattle.std.specs.Prelude.{ℕ, Bool, true, false, cond}
 use Rattle.access.specs.declared.Verdict.{Verdict}
 use Rattle.access.specs.declared.Verdict.TheVariants as verdict
 use Rattle.access.specs.Refusal.{first_of}
-use Rattle.access.specs.Access.{all_bytes}
-use Rattle.ipi_registers.specs.declared.Found as ipi-found
-use Rattle.ipi_registers.specs.declared.Found.TheVariants as ipi-founds
-use Rattle.ipi_registers.specs.declared.Register as ipi
-use Rattle.ipi_registers.specs.declared.Register.TheVariants as ipi-register
-use Rattle.ipi_registers.specs.Effect.{effect_of, masked_of, sent_of}
-use Rattle.ipi_registers.specs.Table.{send_at}
+use Rattle.ipi_registers.specs.Effect.{effect_of}
 use Rattle.windows.specs.declared.Window.TheVariants.{Private}
 use Rattle.windows.specs.declared.Address.{Address}
 use Rattle.windows.specs.declared.Place.{Place}
@@ -55,70 +47,27 @@ unfoldable pub node_plan : node.Written → Plan
 node_plan (written.Plain effect) = WriteTree (write.Node effect)
 node_plan (written.Changed c) = ChangeTree (change.Node c)
 
--- A write of the bytes whose bits are in `written`. The cells of a message register are those of the core that the write reaches (`target_at`): of a
--- send, its target. The gate has no private path, so that all bytes of a write to it are written.
-unfoldable pub write_plan : Place → ℕ → ℕ → ℕ → ℕ → Plan
-write_plan (Message register core) target width written value = WriteCore (masked_of written (effect_of register width value)) target
-write_plan (Node register) target width written value = node_plan (nodes.masked_of written (nodes.written_of register value))
-write_plan Gate target width written value = WriteTree (gate_written false width value)
-write_plan GateHigh target width written value = WriteTree (gate_written true width value)
+-- the cells of a message register are those of the core that the write reaches (`target_at`): of a send, its target
+unfoldable pub write_plan : Place → ℕ → ℕ → ℕ → Plan
+write_plan (Message register core) target width value = WriteCore (effect_of register width value) target
+write_plan (Node register) target width value = node_plan (nodes.written_of register value)
+write_plan Gate target width value = WriteTree (gate_written false width value)
+write_plan GateHigh target width value = WriteTree (gate_written true width value)
 
-unfoldable pub access_plan : Place → ℕ → ℕ → Bool → ℕ → ℕ → Plan
-access_plan place target width true written value = write_plan place target width written value
-access_plan place target width false written value = read_plan place width
+unfoldable pub access_plan : Place → ℕ → ℕ → Bool → ℕ → Plan
+access_plan place target width true value = write_plan place target width value
+access_plan place target width false value = read_plan place width
 
 -- an access that was judged: its refusal, or what it does
-unfoldable pub admitted_plan : Admission → ℕ → Bool → ℕ → ℕ → Plan
-admitted_plan (Refused reason) width write written value = Refuse reason
-admitted_plan (At place target) width write written value = access_plan place target width write written value
+unfoldable pub admitted_plan : Admission → ℕ → Bool → ℕ → Plan
+admitted_plan (Refused reason) width write value = Refuse reason
+admitted_plan (At place target) width write value = access_plan place target width write value
 
-abbrev pub window_plan : Bool → Address → ℕ → Bool → ℕ → ℕ → Plan
-window_plan opened a width write written value = admitted_plan (admission_of a opened width write value) width write written value
+abbrev pub window_plan : Bool → Address → ℕ → Bool → ℕ → Plan
+window_plan opened a width write value = admitted_plan (admission_of a opened width write value) width write value
 
 abbrev pub private_address : ℕ → ℕ → Address
 private_address core offset = address (Private core) offset
-
--- ---- request Q-9: an ANY_Send acts as a 4-byte private write by its target
-
-abbrev pub is_send : ipi-found.Found → Bool
-is_send ipi-founds.Nothing = false
-is_send (ipi-founds.At e) = true
-
--- a send register counts as no target offset, as offset 0 does
-unfoldable pub target_offset : ℕ → ℕ
-target_offset offset = cond (is_send (send_at offset)) 0 offset
-
--- the write that it makes, with the refusals of that write: 1 for its core, then 2, 4, 5
-unfoldable pub remote_plan : Bool → ℕ → Plan
-remote_plan opened value =
-    let s = sent_of value in
-    window_plan opened (private_address s.core (target_offset s.offset)) 4 true s.written s.value
-
-abbrev pub is_any_send : ipi.Register → Bool
-is_any_send ipi-register.AnySend = true
-is_any_send ipi-register.Status = false
-is_any_send ipi-register.Enable = false
-is_any_send ipi-register.Set = false
-is_any_send ipi-register.Clear = false
-is_any_send (ipi-register.MailBox i) = false
-is_any_send (ipi-register.MailBoxHigh i) = false
-is_any_send ipi-register.IpiSend = false
-is_any_send ipi-register.MailSend = false
-is_any_send ipi-register.FreqSend = false
-
-abbrev pub any_send_at : Place → Bool
-any_send_at (Message register core) = is_any_send register
-any_send_at (Node register) = false
-any_send_at Gate = false
-any_send_at GateHigh = false
-
--- a write that was judged: its refusal, an ANY_Send that is accepted for itself, or any other write, with all its bytes
-unfoldable pub judged_plan : Bool → Admission → ℕ → ℕ → Plan
-judged_plan opened (Refused reason) width value = Refuse reason
-judged_plan opened (At place target) width value = cond (any_send_at place) (remote_plan opened value) (write_plan place target width all_bytes value)
-
-abbrev pub private_write_plan : Bool → ℕ → ℕ → ℕ → ℕ → Plan
-private_write_plan opened core offset width value = judged_plan opened (admission_of (private_address core offset) opened width true value) width value
 
 -- ---- bridge accesses, input changes, searches
 
@@ -149,10 +98,10 @@ which_plan chip = ReadTree (read.Which chip)
 -- ---- every kind of step
 
 unfoldable pub decide_of : Bool → Step → Plan
-decide_of opened (step.BusRead a width) = window_plan opened (bus_address a) width false all_bytes 0
-decide_of opened (step.BusWrite a width value) = window_plan opened (bus_address a) width true all_bytes value
-decide_of opened (step.PrivateRead core offset width) = window_plan opened (private_address core offset) width false all_bytes 0
-decide_of opened (step.PrivateWrite core offset width value) = private_write_plan opened core offset width value
+decide_of opened (step.BusRead a width) = window_plan opened (bus_address a) width false 0
+decide_of opened (step.BusWrite a width value) = window_plan opened (bus_address a) width true value
+decide_of opened (step.PrivateRead core offset width) = window_plan opened (private_address core offset) width false 0
+decide_of opened (step.PrivateWrite core offset width value) = window_plan opened (private_address core offset) width true value
 decide_of opened (step.BridgeRead register) = bridge_plan register false 0
 decide_of opened (step.BridgeWrite register value) = bridge_plan register true value
 decide_of opened (step.Input source level) = input_plan source level

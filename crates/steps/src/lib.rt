@@ -115,50 +115,38 @@ fn node_plan(written: node_registers::Written) -> Plan
     }
 }
 
-// What an accepted write does. It reaches the core `target`, and writes the bytes whose bits are in `written`.
-fn write_plan(place: Place, target: u64, width: u64, written: u64, value: u64) -> Plan
-    ensures { result ≡ write_plan place target width written value }
+// What an accepted write does. It reaches the core `target`.
+fn write_plan(place: Place, target: u64, width: u64, value: u64) -> Plan
+    ensures { result ≡ write_plan place target width value }
 {
     match place {
         Place::Message { register, core: _ } => Plan::WriteCore {
-            effect: ipi_registers::masked(
-                ipi_registers::write_effect(register, width, value),
-                written,
-            ),
+            effect: ipi_registers::write_effect(register, width, value),
             core: target,
         },
-        Place::Node(register) => node_plan(node_registers::write(register, written, value)),
+        Place::Node(register) => node_plan(node_registers::write(register, value)),
         Place::Gate => Plan::WriteTree(tree::gate_written(false, width, value)),
         Place::GateHigh => Plan::WriteTree(tree::gate_written(true, width, value)),
     }
 }
 
-fn access_plan(place: Place, target: u64, width: u64, write: bool, written: u64, value: u64) -> Plan
-    ensures { result ≡ access_plan place target width write written value }
+fn access_plan(place: Place, target: u64, width: u64, write: bool, value: u64) -> Plan
+    ensures { result ≡ access_plan place target width write value }
 {
     if write {
-        write_plan(place, target, width, written, value)
+        write_plan(place, target, width, value)
     } else {
         read_plan(place, width)
     }
 }
 
 // A bus or private access: its refusal, or what it does.
-fn window_plan(
-    address: Address,
-    opened: bool,
-    width: u64,
-    write: bool,
-    written: u64,
-    value: u64,
-) -> Plan
-    ensures { result ≡ window_plan opened address width write written value }
+fn window_plan(address: Address, opened: bool, width: u64, write: bool, value: u64) -> Plan
+    ensures { result ≡ window_plan opened address width write value }
 {
     match admission::admit(address, opened, width, write, value) {
         Admission::Refused(refusal) => Plan::Refuse(refusal),
-        Admission::At { place, target } => {
-            access_plan(place, target, width, write, written, value)
-        }
+        Admission::At { place, target } => access_plan(place, target, width, write, value),
     }
 }
 
@@ -219,9 +207,8 @@ pub fn decide(step: Step, second_open: bool) -> Plan
             address,
             width,
             write,
-            written,
             value,
-        } => window_plan(address, second_open, width, write, written, value),
+        } => window_plan(address, second_open, width, write, value),
         Request::Bridge {
             register,
             write,

@@ -1,8 +1,7 @@
-// A step, with the four kinds of bus and private access as one, and the bridge's reads and writes as one. An ANY_Send is the write that it makes.
-// The form serves speed alone: so `decide` names each plan once, and the compiler inlines what is called from one place (docs/SPEED.md).
-ghost use Rattle.std.specs.Prelude.{◌≡◌, Bool, ◌&&◌, eqb, ltb};
-ghost use Rattle.access.specs.Access.{all_bytes};
-ghost use Rattle.steps.specs.Decide.{decide_of, private_address, private_write_plan, remote_plan, target_offset};
+// A step, with the four kinds of bus and private access as one, and the bridge's reads and writes as one. The form serves speed alone: so
+// `decide` names each plan once, and the compiler inlines what is called from one place (docs/SPEED.md).
+ghost use Rattle.std.specs.Prelude.{◌≡◌, Bool};
+ghost use Rattle.steps.specs.Decide.{decide_of, private_address};
 ghost use Rattle.steps.specs.Private.{request_plan};
 
 use crate::Step;
@@ -15,7 +14,6 @@ pub(crate) enum Request {
         address: Address,
         width: u64,
         write: bool,
-        written: u64,
         value: u64,
     },
     Bridge {
@@ -40,15 +38,13 @@ pub(crate) enum Request {
     Reset,
 }
 
-// An access writes all its bytes, if it writes.
 fn access(address: Address, width: u64, write: bool, value: u64) -> Request
-    ensures { result ≡ Request.Access address width write all_bytes value }
+    ensures { result ≡ Request.Access address width write value }
 {
     Request::Access {
         address: address,
         width: width,
         write: write,
-        written: 0xffff_ffff_ffff_ffff,
         value: value,
     }
 }
@@ -60,52 +56,6 @@ fn in_private(core: u64, offset: u64) -> Address
         window: Window::Private(core),
         offset: offset,
     }
-}
-
-// A send register is no target: it counts as offset 0, which names nothing.
-fn target_offset(offset: u64) -> u64
-    ensures { result ≡ target_offset offset }
-{
-    match ipi_registers::send_at(offset) {
-        ipi_registers::Found::Nothing => offset,
-        ipi_registers::Found::At(_) => 0,
-    }
-}
-
-// Whether a private write is an ANY_Send that is accepted for itself. Its target is judged with the write that it makes.
-fn sends_any(core: u64, offset: u64, width: u64) -> bool
-    ensures { result ≡ (eqb offset 0x1158 && (eqb width 8 && ltb core 2)) }
-{
-    if offset == 0x1158 {
-        if width == 8 {
-            return core < 2;
-        }
-        return false;
-    }
-    false
-}
-
-// The private write that an ANY_Send makes.
-fn remote_write(value: u64) -> Request
-    ensures { (opened : Bool) → request_plan opened result ≡ remote_plan opened value }
-{
-    let sent = ipi_registers::any_sent(value);
-    Request::Access {
-        address: in_private(sent.core, target_offset(sent.offset)),
-        width: 4,
-        write: true,
-        written: sent.written,
-        value: sent.value,
-    }
-}
-
-fn private_write(core: u64, offset: u64, width: u64, value: u64) -> Request
-    ensures { (opened : Bool) → request_plan opened result ≡ private_write_plan opened core offset width value }
-{
-    if sends_any(core, offset, width) {
-        return remote_write(value);
-    }
-    access(in_private(core, offset), width, true, value)
 }
 
 fn on_bridge(register: bridge_registers::Register, write: bool, value: u64) -> Request
@@ -139,7 +89,7 @@ pub(crate) fn requested(step: Step) -> Request
             offset,
             width,
             value,
-        } => private_write(core, offset, width, value),
+        } => access(in_private(core, offset), width, true, value),
         Step::BridgeRead { register } => on_bridge(register, false, 0),
         Step::BridgeWrite { register, value } => on_bridge(register, true, value),
         Step::Input { source, level } => Request::Input {

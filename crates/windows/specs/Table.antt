@@ -72,7 +72,7 @@ abbrev gate : Place → Widths → Located
 gate place widths = At place (record { rights = Both; widths = widths })
 
 -- The first window alone has the gate, offset 0x0420: 8 bytes, or 4 bytes at 0x0420 or 0x0424. The private window has its core's status
--- in the node, and the sends.
+-- in the node, and the two sends.
 unfoldable pub alone_in : Window → List (Row Located)
 alone_in First = row 0x0420 (gate Gate FourOrEight) ∷ row 0x0424 (gate GateHigh Four) ∷ []
 alone_in Second = []

@@ -14,6 +14,6 @@ unfolding xor
 merge1_spec =
     tie.close
     (tie.spec
-    (λ c. rw c.if1.true)  -- returns
-    (λ c. rw c.if1.false (ap (kept c.before.args.old) (sym (xor_same c.before.args.old))))  -- returns-2
+    (λ c. rw c.if-mask.true)  -- returns
+    (λ c. rw c.if-mask.false (ap (kept c.before.args.old) (sym (xor_same c.before.args.old))))  -- returns-2
     )

@@ -13,10 +13,7 @@ core_spot_spec =
     (λ c κs. search rules)  -- one-requires-2
     (λ c. search rules)  -- enum-known-cell
     (λ c κs. search rules)  -- one-of-requires
-    (λ c. search rules)  -- enum-told-3
-    (λ c κs. search rules)  -- one-requires-3
     (λ c. search (tests, ← c.one.ensures, c.before.enum_told.given.1))  -- returns
     (λ c. search (tests, ← c.one2.ensures, c.before.enum-told2.given.1))  -- returns-2
     (λ c. search (tests, ← c.one_of_lem.ensures, c.before.before.cell.given.1))  -- returns-3
-    (λ c. search (tests, ← c.one3.ensures, c.before.enum-told3.given.1))  -- returns-4
     )

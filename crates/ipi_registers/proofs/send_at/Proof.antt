@@ -11,11 +11,7 @@ send_at_spec =
     (tie.spec
     (λ c κs. search rules)  -- entry-of-requires
     (λ c κs. search rules)  -- entry-of-requires-2
-    (λ c κs. search rules)  -- entry-of-requires-3
-    (λ c κs. search rules)  -- entry-of-requires-4
     (λ c. search (tests, ← c.entry_of.ensures, c.before.match.keys1))  -- returns
     (λ c. search (tests, ← c.entry-of2.ensures, c.before.match.keys2))  -- returns-2
-    (λ c. search (tests, ← c.entry-of3.ensures, c.before.match.keys3))  -- returns-3
-    (λ c. search (tests, ← c.entry-of4.ensures, c.before.match.keys4))  -- returns-4
-    (λ c. search (tests, c.match.rest))  -- returns-5
+    (λ c. search (tests, c.match.rest))  -- returns-3
     )

@@ -19,9 +19,6 @@ target_spec =
     (λ c κs. search rules)  -- target-field-requires
     (λ c. search rules)  -- enum-told-8
     (λ c κs. search rules)  -- target-field-requires-2
-    (λ c. search rules)  -- enum-told-9
-    (λ c κs. search rules)  -- target-field-requires-3
-    (λ c. search rules)  -- enum-told-10
     (λ c. search (tests, c.enum_told.given.1))  -- returns
     (λ c. search (tests, c.enum-told2.given.1))  -- returns-2
     (λ c. search (tests, c.enum-told3.given.1))  -- returns-3
@@ -30,6 +27,4 @@ target_spec =
     (λ c. search (tests, c.enum-told6.given.1))  -- returns-6
     (λ c. search (tests, ← c.target-field.ensures, c.before.enum-told7.given.1))  -- returns-7
     (λ c. search (tests, ← c.target-field2.ensures, c.before.enum-told8.given.1))  -- returns-8
-    (λ c. search (tests, ← c.target-field3.ensures, c.before.enum-told9.given.1))  -- returns-9
-    (λ c. search (tests, c.enum-told10.given.1))  -- returns-10
     )

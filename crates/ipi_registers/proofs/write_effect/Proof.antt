@@ -26,10 +26,6 @@ write_effect_spec =
     (λ c κs. search rules)  -- ipi-effect-requires
     (λ c. search rules)  -- enum-told-6
     (λ c κs. search rules)  -- mail-effect-requires
-    (λ c. search rules)  -- enum-told-7
-    (λ c κs. search rules)  -- freq-effect-requires
-    (λ c. search rules)  -- enum-told-8
-    (λ c κs. search rules)  -- effect-on-requires-6
     (λ c. search (tests, ← c.effect-on.ensures, c.before.enum_told.given.1))  -- returns
     (λ c. search (tests, ← c.effect-on2.ensures, c.before.enum-told2.given.1))  -- returns-2
     (λ c. search (tests, ← c.effect-on3.ensures, c.before.enum-told3.given.1))  -- returns-3
@@ -38,6 +34,4 @@ write_effect_spec =
     (λ c. search (tests, ← c.effect-on5.ensures, ← c.before.in-half.ensures, c.before.before.before.register2.given.1))  -- returns-6
     (λ c. search (tests, ← c.ipi-effect.ensures, c.before.enum-told5.given.1))  -- returns-7
     (λ c. search (tests, ← c.mail-effect.ensures, c.before.enum-told6.given.1))  -- returns-8
-    (λ c. search (tests, ← c.freq-effect.ensures, c.before.enum-told7.given.1))  -- returns-9
-    (λ c. search (tests, ← c.effect-on6.ensures, c.before.enum-told8.given.1))  -- returns-10
     )

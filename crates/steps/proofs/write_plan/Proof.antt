@@ -11,7 +11,6 @@ write_plan_spec =
     (tie.spec
     (λ c. search rules)  -- enum-known-place
     (λ c κs. search rules)  -- write-effect-requires
-    (λ c κs. search rules)  -- masked-requires
     (λ c. search rules)  -- enum-known-place-2
     (λ c κs. search rules)  -- write-requires
     (λ c κs. search rules)  -- node-plan-requires
@@ -19,7 +18,7 @@ write_plan_spec =
     (λ c κs. search rules)  -- gate-written-requires
     (λ c. search rules)  -- enum-told-2
     (λ c κs. search rules)  -- gate-written-requires-2
-    (λ c. search (tests, ← c.masked.ensures, ← c.before.write-effect.ensures, c.before.before.before.place.given.1))  -- returns
+    (λ c. search (tests, ← c.write-effect.ensures, c.before.before.place.given.1))  -- returns
     (λ c. search (tests, ← c.node-plan.ensures, ← c.before.write.ensures, c.before.before.before.place2.given.1))  -- returns-2
     (λ c. search (tests, ← c.gate-written.ensures, c.before.enum_told.given.1))  -- returns-3
     (λ c. search (tests, ← c.gate-written2.ensures, c.before.enum-told2.given.1))  -- returns-4

@@ -1,9 +1,7 @@
-use Rattle.ipi_registers.specs.declared.Cell.TheVariants.{Status, Enable, MailBox, Frequency}
-use Rattle.cores.specs.Cells.{with_enable, with_frequency, with_status}
+use Rattle.ipi_registers.specs.declared.Cell.TheVariants.{Status, Enable, MailBox}
+use Rattle.cores.specs.Cells.{with_enable, with_status}
 use Rattle.cores.specs.Core.{applied_of}
-use native.Mathlib.Omega.{arith}
 use Rattle.bits.proofs.Cond.{cond_ap}
-use Rattle.bits.proofs.Writes.{merge_low, moved_low}
 use Rattle.cores.proofs.Moved.{own_applied}
 use Rattle.cores.proofs.Own.{own_mail}
 use borrow.Author.Rules.{rules}
@@ -19,12 +17,10 @@ applied_spec =
     (λ c κs. search rules)  -- merge32-requires
     (λ c κs. search rules)  -- choose32-requires
     (λ c κs. search rules)  -- choose-requires
-    (λ c κs. search rules)  -- with-requires
     (λ c. search rules)  -- enum-told-2
     (λ c κs. search rules)  -- merge32-requires-2
     (λ c κs. search rules)  -- choose32-requires-2
     (λ c κs. search rules)  -- choose-requires-2
-    (λ c κs. search rules)  -- with-requires-2
     (λ c. search rules)  -- enum-known-cell
     (λ c κs. search rules)  -- mailbox-requires
     (λ c κs. search rules)  -- merge-requires
@@ -32,30 +28,17 @@ applied_spec =
     (λ c κs. search rules)  -- put-mailbox-requires
     (λ c κs. search rules)  -- choose-requires-4
     (λ c κs. search rules)  -- choose-requires-5
-    (λ c κs. search rules)  -- with-requires-3
-    (λ c. search rules)  -- enum-told-3
-    (λ c κs. search rules)  -- merge32-requires-3
-    (λ c κs. search rules)  -- choose32-requires-3
-    (λ c κs. search rules)  -- choose-requires-6
-    (λ c κs. search rules)  -- with-requires-4
     (λ c.
-    let p = c.before in
-    let a = p.before.before.before.before.before.before.args in
-    rw (c.with.ensures, p.choose.ensures, p.before.choose32.ensures, p.before.before.merge32.ensures, p.before.before.before.enum_told.given.1)
-    (own_applied a.self (search (rules, p.before.before.before.before.before.before.well-formed.0)) Status _ _ a.own_val (cond_ap (with_status a.self) a.own_val _ _)))  -- returns
+    let a = c.before.before.before.before.before.before.args in
+    rw (c.choose.ensures, c.before.choose32.ensures, c.before.before.merge32.ensures, c.before.before.before.enum_told.given.1)
+    (own_applied a.self (search rules) Status _ _ a.own_val (cond_ap (with_status a.self) a.own_val _ _)))  -- returns
     (λ c.
-    let p = c.before in
-    let a = p.before.before.before.before.before.before.args in
-    rw (c.with2.ensures, p.choose2.ensures, p.before.choose322.ensures, p.before.before.merge322.ensures, p.before.before.before.enum-told2.given.1)
-    (own_applied a.self (search (rules, p.before.before.before.before.before.before.well-formed.0)) Enable _ _ a.own_val (cond_ap (with_enable a.self) a.own_val _ _)))  -- returns-2
+    let a = c.before.before.before.before.before.before.args in
+    rw (c.choose2.ensures, c.before.choose322.ensures, c.before.before.merge322.ensures, c.before.before.before.enum-told2.given.1)
+    (own_applied a.self (search rules) Enable _ _ a.own_val (cond_ap (with_enable a.self) a.own_val _ _)))  -- returns-2
     (λ c.
-    let p = c.before.before.before.before in
+    let p = c.before.before.before in
     let a = p.before.before.before.before.before.before.before.args in
-    rw (c.with3.ensures, c.before.choose5.ensures, c.before.before.choose4.ensures, c.before.before.before.put-mailbox.ensures, p.choose3.ensures, p.before.merge.ensures, p.before.before.mailbox.ensures, p.before.before.before.before.cell.given.1)
-    (own_applied a.self (search (rules, p.before.before.before.before.before.before.before.well-formed.0)) (MailBox _) _ _ a.own_val (own_mail a.self a.own_val _ _)))  -- returns-3
-    (λ c.
-    let p = c.before in
-    let a = p.before.before.before.before.before.before.before.before.args in
-    rw (c.with4.ensures, p.choose6.ensures, p.before.before.choose323.ensures, p.before.before.before.before.merge323.ensures, p.before.before.before.before.before.enum-told3.given.1, merge_low 5 32 _ _ _ (omega arith), moved_low 5 32 _ _ _ (omega arith))
-    (own_applied a.self (search (rules, p.before.before.before.before.before.before.before.before.well-formed.0)) Frequency _ _ a.own_val (cond_ap (with_frequency a.self) a.own_val _ _)))  -- returns-4
+    rw (c.choose5.ensures, c.before.choose4.ensures, c.before.before.put-mailbox.ensures, p.choose3.ensures, p.before.merge.ensures, p.before.before.mailbox.ensures, p.before.before.before.before.cell.given.1)
+    (own_applied a.self (search (rules, p.before.before.before.before.before.before.before.well-formed)) (MailBox _) _ _ a.own_val (own_mail a.self a.own_val _ _)))  -- returns-3
     )

@@ -22,8 +22,6 @@ read_spec =
     (λ c κs. search rules)  -- mailbox-requires-2
     (λ c. search rules)  -- enum-told-5
     (λ c. search rules)  -- enum-told-6
-    (λ c. search rules)  -- enum-told-7
-    (λ c. search rules)  -- enum-told-8
     (λ c. search (tests, ← c.wide.ensures, c.before.enum_told.given.1))  -- returns
     (λ c. search (tests, ← c.wide2.ensures, c.before.enum-told2.given.1))  -- returns-2
     (λ c. search (tests, c.enum-told3.given.1))  -- returns-3
@@ -32,6 +30,4 @@ read_spec =
     (λ c. search (tests, ← c.mailbox2.ensures, c.before.before.register2.given.1))  -- returns-6
     (λ c. search (tests, c.enum-told5.given.1))  -- returns-7
     (λ c. search (tests, c.enum-told6.given.1))  -- returns-8
-    (λ c. search (tests, c.enum-told7.given.1))  -- returns-9
-    (λ c. search (tests, c.enum-told8.given.1))  -- returns-10
     )

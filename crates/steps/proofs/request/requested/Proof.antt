@@ -19,7 +19,8 @@ requested_spec =
     (λ c κs. search rules)  -- in-private-requires
     (λ c κs. search rules)  -- access-requires-3
     (λ c. search rules)  -- enum-known-step-4
-    (λ c κs. search rules)  -- private-write-requires
+    (λ c κs. search rules)  -- in-private-requires-2
+    (λ c κs. search rules)  -- access-requires-4
     (λ c. search rules)  -- enum-known-step-5
     (λ c κs. search rules)  -- on-bridge-requires
     (λ c. search rules)  -- enum-known-step-6
@@ -32,7 +33,7 @@ requested_spec =
     (λ c opened. rw (c.access.ensures, c.before.bus-address.ensures, c.before.before.before.step.given.1))  -- returns
     (λ c opened. rw (c.access2.ensures, c.before.bus-address2.ensures, c.before.before.before.step2.given.1))  -- returns-2
     (λ c opened. rw (c.access3.ensures, c.before.in-private.ensures, c.before.before.before.step3.given.1))  -- returns-3
-    (λ c opened. rw c.before.before.step4.given.1 (c.private-write.ensures opened))  -- returns-4
+    (λ c opened. rw (c.access4.ensures, c.before.in-private2.ensures, c.before.before.before.step4.given.1))  -- returns-4
     (λ c opened. rw (c.on-bridge.ensures, c.before.before.step5.given.1))  -- returns-5
     (λ c opened. rw (c.on-bridge2.ensures, c.before.before.step6.given.1))  -- returns-6
     (λ c opened. rw c.before.step7.given.1)  -- returns-7
