@@ -1,4 +1,6 @@
 // What every register block shares: refusals and their numbers, the rights and widths of a register, and the refusals of an access to it.
+#![tactic(auto)]
+
 ghost use Rattle.std.specs.Prelude.{◌≡◌};
 ghost use Rattle.access.specs.Refusal.{first_of, refusal_number};
 ghost use Rattle.access.specs.Access.{access_refusals, fitting, listed, permitted};

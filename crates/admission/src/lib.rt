@@ -1,4 +1,6 @@
 // Which steps are refused: of each kind the first refusal that applies, or what is reached.
+#![tactic(auto)]
+
 ghost use Rattle.std.specs.Prelude.{◌≡◌, not, ◌&&◌};
 ghost use Rattle.access.specs.Refusal.{first_of};
 ghost use Rattle.admission.specs.Refusals.{admission_of, bridge_refusals, input_refusals, node_input_refusals, target_at};

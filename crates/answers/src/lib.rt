@@ -1,4 +1,6 @@
 // What a step answers: read data or a refusal, beside the bits that a write moved and the lines.
+#![tactic(auto)]
+
 ghost use Rattle.std.specs.Prelude.{◌≡◌};
 ghost use Rattle.answers.specs.Answers.{lines_word, outcome_data, outcome_number};
 

@@ -1,4 +1,6 @@
 // Words: masked writes and the bits that they move, single bits, a choice of two words and of their bits, the edge-latch rule.
+#![tactic(auto)]
+
 ghost use Rattle.std.specs.Prelude.{◌≡◌, cond, ◌&&◌};
 ghost use Rattle.bits.specs.Bits as specs;
 ghost use Rattle.bits.specs.Latch as latches;

@@ -1,4 +1,6 @@
 // Section 8.1: the 64 sources of the bridge: drive, request, in service, which of them it is, and the two outputs.
+#![tactic(auto)]
+
 ghost use Rattle.std.specs.Prelude.{◌≡◌, cond, not, ◌&&◌, ◌||◌, eqb, get_or};
 ghost use Rattle.bits.specs.Bits.{bit, word};
 ghost use Rattle.bridge_registers.specs.Registers.{in_service_at};

@@ -1,4 +1,6 @@
 // Section 8.1: the registers of the bridge's interrupt controller by name, and what a write to each does.
+#![tactic(auto)]
+
 ghost use Rattle.std.specs.Prelude.{◌≡◌};
 ghost use Rattle.bridge_registers.specs.Registers.{distributed, row_of, sized, written_of};
 

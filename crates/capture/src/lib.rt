@@ -1,4 +1,6 @@
 // The replay of a capture: input steps in file order, and a dump of the four lines behind the used bytes of a buffer.
+#![tactic(auto)]
+
 ghost use Rattle.std.specs.Prelude.{◌≡◌, cond, List, [], ℕ, length};
 ghost use Rattle.capture_tokens.specs.Tokens.{tokens_from};
 ghost use Rattle.capture_ids.specs.declared.Look.{Look};

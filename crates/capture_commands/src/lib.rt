@@ -1,4 +1,6 @@
 // The simulation commands of a capture: what each token calls for, a time mark or a change of inputs, and the refusals of the text.
+#![tactic(auto)]
+
 ghost use Rattle.std.specs.Prelude.{◌≡◌, []};
 ghost use Rattle.capture_tokens.specs.Tokens.{one_of, token as token_at};
 ghost use Rattle.capture_commands.specs.Commands as commands;

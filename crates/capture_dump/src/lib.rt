@@ -1,4 +1,6 @@
 // The dump of the four lines, put into a buffer piece by piece, or only measured.
+#![tactic(auto)]
+
 ghost use Rattle.std.specs.Prelude.{◌≡◌, List, ℕ, ◌≤◌, length, drop};
 ghost use Rattle.numbers.specs.Printed.{decimal_of};
 ghost use Rattle.capture_dump.specs.Dump.{opening, value_text, line_text, lines_text, time_text, differs as differs_of, some_differs, mark_text, end_text};

@@ -1,4 +1,6 @@
 // The forms of a token, read byte by byte: ids, vectors, real numbers and references are paths of one small automaton.
+#![tactic(auto)]
+
 ghost use Rattle.std.specs.Prelude.{◌≡◌, drop};
 ghost use Rattle.capture_forms.specs.Forms.{class_of, next_of, scan_of, id_form, vector_form, real_form, reference_form};
 

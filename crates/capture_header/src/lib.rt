@@ -1,4 +1,6 @@
 // The header of a capture: its declarations, read token by token.
+#![tactic(auto)]
+
 ghost use Rattle.std.specs.Prelude.{◌≡◌};
 ghost use Rattle.capture_tokens.specs.Tokens.{one_of, token as token_at};
 ghost use Rattle.capture_header.specs.Header as header;

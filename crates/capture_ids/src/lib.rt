@@ -1,5 +1,7 @@
 // The ids that a capture's header declares, and the inputs that have them. Nothing is copied, and no number of declarations is too many: what
 // the header says of an id is looked up in a table, where it is short, and else by reading the header again.
+#![tactic(auto)]
+
 ghost use Rattle.std.specs.Prelude.{◌≡◌, [], ◌∷◌, take, drop};
 ghost use Rattle.capture_tokens.specs.Tokens.{tokens_from};
 ghost use Rattle.capture_ids.specs.Private.{Passed};

@@ -1,4 +1,6 @@
 // The input that a reference names.
+#![tactic(auto)]
+
 ghost use Rattle.std.specs.Prelude.{◌≡◌, length, get_or, drop};
 ghost use Rattle.capture_names.specs.Names.{before, name_of, input_of};
 

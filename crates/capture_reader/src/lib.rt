@@ -1,6 +1,8 @@
 // A reader of a capture: it holds the lent text and a place in it, and copies nothing. Each replay goes through one. The borrow checker covers no
 // function over such a struct, so these are few and thin, and each is proved by hand: it takes the reader apart and calls a covered function on
 // the slice and the number. Who calls `replay_at` or `replay_text`, whose parameters are plain, needs no such proof.
+#![tactic(auto)]
+
 ghost use Rattle.std.specs.Prelude.{◌≡◌};
 ghost use Rattle.capture_tokens.specs.Tokens.{token_of};
 ghost use Rattle.capture.specs.Replay.{replay_of, buffer_of, replay_from, buffer_from};

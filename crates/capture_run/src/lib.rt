@@ -1,4 +1,6 @@
 // A capture run on a device: input steps, and the time under way.
+#![tactic(auto)]
+
 ghost use Rattle.std.specs.Prelude.{◌≡◌};
 ghost use Rattle.capture_run.specs.Run as run;
 

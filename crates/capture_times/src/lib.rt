@@ -1,4 +1,6 @@
 // The times of a capture: which mark ends a time, and the lines that the next one is compared with.
+#![tactic(auto)]
+
 ghost use Rattle.std.specs.Prelude.{◌≡◌};
 ghost use Rattle.capture_times.specs.Times as times;
 

@@ -1,4 +1,6 @@
 // The tokens of a capture as places of a lent text: nothing is copied.
+#![tactic(auto)]
+
 ghost use Rattle.std.specs.Prelude.{◌≡◌};
 ghost use Rattle.capture_tokens.specs.Tokens.{token_of, words_of, index_of, is_end};
 

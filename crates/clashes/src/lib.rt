@@ -1,4 +1,6 @@
 // Where two writes of the order rule clash.
+#![tactic(auto)]
+
 ghost use Rattle.std.specs.Prelude.{◌≡◌, cond, ◌&&◌, eqb, ltb};
 ghost use Rattle.std.specs.Bool.{xor};
 ghost use Rattle.bits.specs.Bits.{bit, word};

@@ -1,4 +1,6 @@
 // Chapter 7: the inter-core interrupt cells and mailboxes of one core.
+#![tactic(auto)]
+
 ghost use Rattle.std.specs.Prelude.{◌≡◌, cond, get_or, set};
 ghost use Rattle.cores.specs.Core.{applied_of, line_of, mail_box_read, read_of};
 ghost use Rattle.cores.specs.Moved.{with_moved};

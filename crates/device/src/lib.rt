@@ -1,4 +1,6 @@
 // The device: two cores, the interrupt tree and the switch of the second window; one step at a time, by value.
+#![tactic(auto)]
+
 ghost use Rattle.std.specs.Prelude.{◌≡◌};
 ghost use Rattle.device.specs.Device.{answered_of, fresh_of, reset_of, start_of, with_open, with_tree};
 ghost use Rattle.device.specs.Private.{class_next, class_of, with_cores};

@@ -3,6 +3,8 @@
 // moved (Q-8).
 // The parts of an example are lettered in 01's order; those that are missing are in the table, crates/promises/specs/Examples.antt. 8a to 8f,
 // 9b and 12b are there too, and so is 12c with other mail sends: they are run here again.
+#![tactic(auto)]
+
 mod cells;
 mod clash;
 mod kinds;

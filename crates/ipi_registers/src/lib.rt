@@ -1,4 +1,6 @@
 // Chapter 7: the inter-core interrupt and mailbox registers by offset, the two sends, and what a write to each does.
+#![tactic(auto)]
+
 ghost use Rattle.std.specs.Prelude.{◌≡◌, ◌+◌, ◌<◌};
 ghost use Rattle.ipi_registers.specs.Table.{entry, entry_at, send_at};
 ghost use Rattle.ipi_registers.specs.Effect.{effect_of, half_of, in_half, ipi_sent, mail_sent, target_of};

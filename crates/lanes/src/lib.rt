@@ -1,4 +1,6 @@
 // Bytes: byte masks, a byte of many read and written, one bit of many bytes, the bits that some of many bytes have.
+#![tactic(auto)]
+
 ghost use Rattle.std.specs.Prelude.{◌≡◌, false, get_or, set};
 ghost use Rattle.bits.specs.Bits as words;
 ghost use Rattle.lanes.specs.Bytes as bytes;

@@ -1,4 +1,6 @@
 // Section 8.2: the 32 sources of the node: drive, request, the status of a core, and the lines to the pins of both cores.
+#![tactic(auto)]
+
 ghost use Rattle.std.specs.Prelude.{◌≡◌, not, ◌&&◌};
 ghost use Rattle.bits.specs.Bits.{bit, word};
 ghost use Rattle.bits.specs.Latch.{latched};

@@ -1,4 +1,6 @@
 // Section 8.2: the registers of the node's I/O interrupts by offset, and what a write to each does.
+#![tactic(auto)]
+
 ghost use Rattle.std.specs.Prelude.{◌≡◌};
 ghost use Rattle.node_registers.specs.Table.{entry_at, found, per_core_of};
 ghost use Rattle.node_registers.specs.Effect.{written_of};

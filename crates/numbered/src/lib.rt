@@ -1,4 +1,6 @@
 // Steps by number, for what comes from outside the model: the lines of a script, the rows of a mix. Numbers that name nothing are unknown.
+#![tactic(auto)]
+
 ghost use Rattle.std.specs.Prelude.{◌≡◌};
 ghost use Rattle.numbered.specs.Numbered.{chip_of, flagged, known_or, of_bridge, register_at, step_at};
 

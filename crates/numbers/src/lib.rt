@@ -1,4 +1,6 @@
 // The text of numbers, as byte slices: read, and printed in hexadecimal and decimal.
+#![tactic(auto)]
+
 ghost use Rattle.std.specs.Prelude.{◌≡◌, false, ◌^◌, ◌≤◌, ◌<◌, drop};
 ghost use Rattle.numbers.specs.Numbers.{digit_of, separates as separates_of, formed, value_from, bounded, number_in, marked as marked_of, number_of};
 ghost use Rattle.numbers.specs.Printed.{glyph as glyph_of, digits_of, hex_of, decimal_of, ended};

@@ -1,5 +1,7 @@
 // The order rule of the device: the cells that plain writes reach, what a write gives them, which writes the rule covers, and that the rule
 // holds of every device.
+#![tactic(auto)]
+
 ghost use Rattle.std.specs.Prelude.{◌≡◌, true, length};
 ghost use Rattle.device.specs.Device.{with_tree};
 ghost use Rattle.node.specs.Cells.{with_latch};

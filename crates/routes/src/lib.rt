@@ -1,4 +1,6 @@
 // Table 8-6: the route bytes of the node's 32 sources: read, written, the sources routed to a core, the lines that routes name.
+#![tactic(auto)]
+
 ghost use Rattle.std.specs.Prelude.{◌≡◌, get_or};
 ghost use Rattle.routes.specs.Routes.{lines_of, route_read, routed_of};
 ghost use Rattle.routes.specs.Moved.{route_moved};

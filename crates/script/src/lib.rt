@@ -1,4 +1,6 @@
 // What a step script means: the step of a line, and how many pairs of a block's writes clash.
+#![tactic(auto)]
+
 ghost use Rattle.std.specs.Prelude.{◌≡◌, [], ◌+◌, ◌<◌, ◌≤◌, drop, get_or, length};
 ghost use Rattle.script.specs.Line.{form_step, line_step, line_steps};
 ghost use Rattle.script.specs.Block.{BlockRule, clash_count, clashes_with, counted};

@@ -1,4 +1,6 @@
 // The lowest bit of a word that is set, looked for by groups of eight (request Q-5).
+#![tactic(auto)]
+
 ghost use Rattle.std.specs.Prelude.{◌≡◌, ◌<◌};
 ghost use Rattle.bits.specs.Bits.{bit, first, word};
 ghost use Rattle.search.specs.Groups.{first_group, in_group};

@@ -1,4 +1,6 @@
 // Runs step scripts: `sim FILE...` each file on a fresh device, `sim` alone its standard input.
+#![tactic(auto)]
+
 mod block;
 mod counts;
 mod files;

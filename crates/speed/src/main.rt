@@ -1,5 +1,7 @@
 // Runs many steps of a mix on one device and prints a checksum of every answer and of the end state: `speed N` every mix, `speed N MIX` one.
 // bench/baseline.c does the same in plain C, and bench/run compares their checksums and times.
+#![tactic(auto)]
+
 mod mix;
 
 use access::refusal_number;

@@ -1,4 +1,6 @@
 // The kinds of step, and what each does: decided from the step and the window switch alone.
+#![tactic(auto)]
+
 mod request;
 
 ghost use Rattle.std.specs.Prelude.{◌≡◌};

@@ -1,4 +1,6 @@
 // Texts as byte slices: tokens, tests of a text, text put into a buffer.
+#![tactic(auto)]
+
 ghost use Rattle.std.specs.Prelude.{◌≡◌, cond, not, ◌≤◌, min, drop};
 ghost use Rattle.bits.specs.Bits.{bit};
 ghost use Rattle.numbers.specs.Printed.{hex_of, decimal_of};

@@ -1,5 +1,7 @@
 // The interrupt tree from the sources to the cores' pins: the bridge, the gate behind it, and the node. A block that joins the tree adds a
 // field, and a case to each of `Read`, `Write` and `Change`.
+#![tactic(auto)]
+
 ghost use Rattle.std.specs.Prelude.{◌≡◌};
 ghost use Rattle.node.specs.Sources as nodes;
 ghost use Rattle.bridge.specs.Sources.{which_of};

@@ -1,5 +1,7 @@
 // Section 8.1.3: fixed and turn mode: the outputs that sources show on, and which output comes next (request Q-6). Bit i of each word and
 // byte i of the routes belong to source i; a 1 in `auto`, AUTO_CTRL0, is turn mode; a turn bit names output 0 or 1.
+#![tactic(auto)]
+
 ghost use Rattle.std.specs.Prelude.{◌≡◌, not, ◌&&◌, get_or};
 ghost use Rattle.bits.specs.Bits.{bit, word};
 ghost use Rattle.turns.specs.Turns.{next_turn, outputs_of, showing, shown_on, turns_of};

@@ -1,4 +1,6 @@
 // The windows of the bus and of each core: which register an offset in one of them names.
+#![tactic(auto)]
+
 ghost use Rattle.std.specs.Prelude.{◌≡◌};
 ghost use Rattle.windows.specs.Table.{bus_address, in_second, located_at, on_core, on_node};
 ghost use Rattle.windows.specs.Private.{alone_at, beside_at, core_in, core_term, gate_at, own_offset, without_term};

@@ -8,7 +8,7 @@ unfolding fitting
 fits_spec =
     tie.close
     (tie.spec
-    (λ c. search (tests, c.match.keys1))  -- returns
-    (λ c. search (tests, c.match.keys2))  -- returns-2
-    (λ c. search (tests, c.match.rest))  -- returns-3
+    (λ c. search (tests, c.in-1.is))  -- returns-in-1
+    (λ c. search (tests, c.in-4.is))  -- returns-in-4
+    (λ c. search (tests, c.in_default.in_default-own.rest))  -- returns-in_default
     )

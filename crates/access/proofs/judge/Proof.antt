@@ -12,8 +12,8 @@ judge_spec =
     (λ c κs. search rules)  -- lists-requires
     (λ c κs. search rules)  -- permits-requires
     (λ c κs. search rules)  -- fits-requires
-    (λ c. search (tests, c.if3.true, ← c.before.fits2.ensures, c.before.before.if2.true, ← c.before.before.before.permits.ensures, c.before.before.before.before.if1.true, ← c.before.before.before.before.before.lists.ensures))  -- returns
-    (λ c. search (tests, c.if3.false, ← c.before.fits2.ensures, c.before.before.if2.true, ← c.before.before.before.permits.ensures, c.before.before.before.before.if1.true, ← c.before.before.before.before.before.lists.ensures))  -- returns-2
-    (λ c. search (tests, c.if2.false, ← c.before.permits.ensures, c.before.before.if1.true, ← c.before.before.before.lists.ensures))  -- returns-3
-    (λ c. search (tests, c.if1.false, ← c.before.lists.ensures))  -- returns-4
+    (λ c. search (tests, c.if-fits.true, ← c.before.fits.ensures, c.before.before.if-permits.true, ← c.before.before.before.permits.ensures, c.before.before.before.before.if-lists.true, ← c.before.before.before.before.before.lists.ensures))  -- returns-then-fits
+    (λ c. search (tests, c.if-fits.false, ← c.before.fits.ensures, c.before.before.if-permits.true, ← c.before.before.before.permits.ensures, c.before.before.before.before.if-lists.true, ← c.before.before.before.before.before.lists.ensures))  -- returns-then-permits
+    (λ c. search (tests, c.if-permits.false, ← c.before.permits.ensures, c.before.before.if-lists.true, ← c.before.before.before.lists.ensures))  -- returns-then-lists
+    (λ c. search (tests, c.if-lists.false, ← c.before.lists.ensures))  -- returns
     )

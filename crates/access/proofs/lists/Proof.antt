@@ -9,13 +9,13 @@ unfolding listed
 lists_spec =
     tie.close
     (tie.spec
-    (λ c. search rules)  -- enum_told
-    (λ c. search rules)  -- enum-told-2
-    (λ c. search rules)  -- enum-told-3
-    (λ c. search rules)  -- enum-told-4
-    (λ c. search (tests, c.enum_told.given.1))  -- returns
-    (λ c. search (tests, c.enum-told2.given.1))  -- returns-2
-    (λ c. search (tests, c.enum-told3.given.1))  -- returns-3
-    (λ c. search (tests, c.if1.true, c.before.enum-told4.given.1))  -- returns-4
-    (λ c. search (tests, c.if1.false, c.before.enum-told4.given.1))  -- returns-5
+    (λ c. search rules)  -- enum_told-1
+    (λ c. search rules)  -- enum_told-in-Four
+    (λ c. search rules)  -- enum_told-in-Eight
+    (λ c. search rules)  -- enum_told-in-FourOrEight
+    (λ c. search (tests, c.in-One.is))  -- returns-in-One
+    (λ c. search (tests, c.in-Four.is))  -- returns-in-Four
+    (λ c. search (tests, c.in-Eight.is))  -- returns-in-Eight
+    (λ c. search (tests, c.if-width-eq4.true, c.before.in-FourOrEight.is))  -- returns-then-width-eq4
+    (λ c. search (tests, c.if-width-eq4.false, c.before.in-FourOrEight.is))  -- returns-else-width-eq4
     )

@@ -8,10 +8,10 @@ unfolding permitted
 permits_spec =
     tie.close
     (tie.spec
-    (λ c. search rules)  -- enum_told
-    (λ c. search rules)  -- enum-told-2
-    (λ c. search rules)  -- enum-told-3
-    (λ c. simp c.enum_told.given.1)  -- returns
-    (λ c. simp c.enum-told2.given.1)  -- returns-2
-    (λ c. simp c.enum-told3.given.1)  -- returns-3
+    (λ c. search rules)  -- enum_told-1
+    (λ c. search rules)  -- enum_told-in-Write
+    (λ c. search rules)  -- enum_told-in-Both
+    (λ c. simp c.in-Read.is)  -- returns-in-Read
+    (λ c. simp c.in-Write.is)  -- returns-in-Write
+    (λ c. simp c.in-Both.is)  -- returns-in-Both
     )

@@ -8,22 +8,22 @@ unfolding refusal_number
 refusal_number_spec =
     tie.close
     (tie.spec
-    (λ c. search rules)  -- enum_told
-    (λ c. search rules)  -- enum-told-2
-    (λ c. search rules)  -- enum-told-3
-    (λ c. search rules)  -- enum-told-4
-    (λ c. search rules)  -- enum-told-5
-    (λ c. search rules)  -- enum-told-6
-    (λ c. search rules)  -- enum-told-7
-    (λ c. search rules)  -- enum-told-8
-    (λ c. search rules)  -- enum-told-9
-    (λ c. simp c.enum_told.given.1)  -- returns
-    (λ c. simp c.enum-told2.given.1)  -- returns-2
-    (λ c. simp c.enum-told3.given.1)  -- returns-3
-    (λ c. simp c.enum-told4.given.1)  -- returns-4
-    (λ c. simp c.enum-told5.given.1)  -- returns-5
-    (λ c. simp c.enum-told6.given.1)  -- returns-6
-    (λ c. simp c.enum-told7.given.1)  -- returns-7
-    (λ c. simp c.enum-told8.given.1)  -- returns-8
-    (λ c. simp c.enum-told9.given.1)  -- returns-9
+    (λ c. search rules)  -- enum_told-1
+    (λ c. search rules)  -- enum_told-in-Register
+    (λ c. search rules)  -- enum_told-in-Window
+    (λ c. search rules)  -- enum_told-in-Width
+    (λ c. search rules)  -- enum_told-in-Right
+    (λ c. search rules)  -- enum_told-in-Value
+    (λ c. search rules)  -- enum_told-in-Source
+    (λ c. search rules)  -- enum_told-in-Distribution
+    (λ c. search rules)  -- enum_told-in-NoneInService
+    (λ c. simp c.in-Core.is)  -- returns-in-Core
+    (λ c. simp c.in-Register.is)  -- returns-in-Register
+    (λ c. simp c.in-Window.is)  -- returns-in-Window
+    (λ c. simp c.in-Width.is)  -- returns-in-Width
+    (λ c. simp c.in-Right.is)  -- returns-in-Right
+    (λ c. simp c.in-Value.is)  -- returns-in-Value
+    (λ c. simp c.in-Source.is)  -- returns-in-Source
+    (λ c. simp c.in-Distribution.is)  -- returns-in-Distribution
+    (λ c. simp c.in-NoneInService.is)  -- returns-in-NoneInService
     )

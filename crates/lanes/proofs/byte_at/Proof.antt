@@ -7,7 +7,7 @@ pub byte_at_spec : {M : Type 1} → statement M
 byte_at_spec =
     tie.close
     (tie.spec
-    (λ c. search rules)  -- shared-slice-read-result
-    (λ c. search rules)  -- returns
-    (λ c. search (rules, get_d_past))  -- returns-2
+    (λ c. search rules)  -- bounds-all-i
+    (λ c. search rules)  -- returns-then-i-all
+    (λ c. search (rules, get_d_past))  -- returns-else-i-all
     )

@@ -9,5 +9,5 @@ clear_lowest_spec =
     tie.close
     (tie.spec
     (λ c. search rules)
-    (λ c. rw c.if1.true (clear_lowest 64 0 (search rules)))
+    (λ c. rw c.if-w-eq0.true (clear_lowest 64 0 (search rules)))
     (λ c. clear_lowest 64 c.before.args.w c.before.ranges.w.fits))

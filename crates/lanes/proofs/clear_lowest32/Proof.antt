@@ -9,5 +9,5 @@ clear_lowest32_spec =
     tie.close
     (tie.spec
     (λ c. search rules)
-    (λ c. rw c.if1.true (clear_lowest 32 0 (search rules)))
+    (λ c. rw c.if-w-eq0.true (clear_lowest 32 0 (search rules)))
     (λ c. clear_lowest 32 c.before.args.w c.before.ranges.w.fits))

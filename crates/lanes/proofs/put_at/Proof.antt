@@ -7,8 +7,8 @@ pub put_at_spec : {M : Type 1} → statement M
 put_at_spec =
     tie.close
     (tie.spec
-    (λ c. search rules)  -- slice-write-all
-    (λ c. search rules)  -- same-length
-    (λ c. search rules)  -- returns
-    (λ c. search (rules, set_past))  -- returns-2
+    (λ c. search rules)  -- bounds-all-i
+    (λ c. search rules)  -- shape_of-all
+    (λ c. search rules)  -- returns-then-i-all
+    (λ c. search (rules, set_past))  -- returns-else-i-all
     )

@@ -11,25 +11,25 @@ use Rattle.lanes.proofs.Rest.{Rest, rest_start, rest_next, rest_none, rest_full}
 use Rattle.lanes.proofs.united.Statement.{statement}
 use Rattle.lanes.proofs.united.Tie as tie
 
-abbrev invariant_loop : tie.invariant_loop
+abbrev invariant_loop : tie.invariant-loop-w
 invariant_loop which all w₀ r₀ w r = Rest 2 64 (λ i. bit (get_or all i 0)) which w r
 
-abbrev decreases_loop : tie.decreases_loop
+abbrev decreases_loop : tie.decreases-loop-w
 decreases_loop which all w₀ r₀ w r = w
 
-array_read_r : tie.Need-array-read-r invariant_loop decreases_loop
+array_read_r : tie.Need-bounds-all-lowest invariant_loop decreases_loop
 array_read_r c =
-    rw c.lowest.ensures (first_set 64 c.before.before.before.loop.invariant.left c.before.before.loop-test.true).0
+    rw c.lowest.ensures (first_set 64 c.before.before.before.loop-w.invariant.left c.before.before.loop-w-test.true).0
 
-loop_less : tie.Need-loop-smaller invariant_loop decreases_loop
+loop_less : tie.Need-loop-w-smaller invariant_loop decreases_loop
 loop_less c =
-    rw c.clear-lowest.ensures
-    (clear_less 64 c.before.before.before.before.loop.invariant.left c.before.before.before.loop-test.true)
+    rw c.clear_lowest-w.ensures
+    (clear_less 64 c.before.before.before.before.loop-w.invariant.left c.before.before.before.loop-w-test.true)
 
-loop_again : tie.Need-loop-preserved invariant_loop decreases_loop
+loop_again : tie.Need-loop-w-preserved invariant_loop decreases_loop
 loop_again c =
-    rw (c.clear-lowest.ensures, c.before.lowest.ensures)
-    (rest_next c.before.before.before.before.loop.invariant c.before.before.before.loop-test.true (sym (word_mod 2 _)))
+    rw (c.clear_lowest-w.ensures, c.before.lowest.ensures)
+    (rest_next c.before.before.before.before.loop-w.invariant c.before.before.before.loop-w-test.true (sym (word_mod 2 _)))
 
 pub united_spec : {M : Type 1} → statement M
 unfolding united
@@ -45,5 +45,5 @@ united_spec =
     (λ c κs. search rules)
     loop_less
     loop_again
-    (λ c. rest_full c.before.before.loop.invariant (eqb-true _ 3 (not-false _ c.if1.false)))
-    (λ c. rest_none c.before.loop.invariant c.loop-test.false))
+    (λ c. rest_full c.before.before.loop-w.invariant c.if-r-ne3.false)
+    (λ c. rest_none c.before.loop-w.invariant c.loop-w-test.false))

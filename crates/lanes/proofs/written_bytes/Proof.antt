@@ -29,26 +29,26 @@ grown w mask j h =
     in let more : 8 * (j + 1) ≡ 8 * j + 8 = omega arith
     in rw (alike, byte, more) (append w (8 * j) 8 f (omega arith))
 
-abbrev invariant_loop : tie.invariant_loop
+abbrev invariant_loop : tie.invariant-loop-j
 invariant_loop mask written₀ j₀ written j = (j ≤ 4) × (written ≡ written_bytes j mask)
 
-abbrev decreases_loop : tie.decreases_loop
+abbrev decreases_loop : tie.decreases-loop-j
 decreases_loop mask written₀ j₀ written j = 4 - j
 
-loop_holds : tie.Need-loop-init invariant_loop decreases_loop
+loop_holds : tie.Need-loop-j-init invariant_loop decreases_loop
 unfolding written_bytes word
 loop_holds c = (search rules, refl)
 
-loop_again : tie.Need-loop-preserved invariant_loop decreases_loop
-loop_again c = (search rules, rw (c.before.before.before.before.loop.invariant.1, byte, c.before.before.test.ensures) (grown 64 _ _ (omega arith)))
+loop_again : tie.Need-loop-j-preserved invariant_loop decreases_loop
+loop_again c = (search rules, rw (c.before.before.before.before.loop-j.invariant.1, byte, c.before.before.test.ensures) (grown 64 _ _ (omega arith)))
   where
-    byte : c.before.if1.byte ≡ cond c.before.before.test.result 0x00 0xff
-    byte = ⊎_elim (λ t. rw t.0.taken t.1) (λ t. rw t.0.left t.1) c.before.if1.branch
+    byte : c.before.if-test.byte ≡ cond c.before.before.test.result 0x00 0xff
+    byte = ⊎_elim (λ w. rw w.if-test.true w.byte-is) (λ w. rw w.if-test.false w.byte-is) c.before.if-test.branch-raw
 
 returns : tie.Need-returns invariant_loop decreases_loop
 returns c =
-    let e : c.before.loop.j ≡ 4 = omega arith
-    in rw (← e) c.before.loop.invariant.1
+    let e : c.before.loop-j.j ≡ 4 = omega arith
+    in rw (← e) c.before.loop-j.invariant.1
 
 pub written_bytes_spec : {M : Type 1} → statement M
 written_bytes_spec =

@@ -30,16 +30,16 @@ unfolding digit_of
 digit_spec =
     tie.close
     (tie.spec
-    (λ c. search rules)  -- cast-result
-    (λ c. search rules)  -- sub-result
-    (λ c. search rules)  -- cast-result-2
-    (λ c. search rules)  -- sub-result-2
-    (λ c. search rules)  -- cast-result-3
-    (λ c. search (tests, rules))  -- returns
-    (λ c. search (tests, rules))  -- returns-2
-    (λ c. search (tests, rules))  -- returns-3
-    (λ c. none c.before.args.c (inl (omega arith)) (inl (omega arith)) (inl (omega arith)))  -- returns-4
-    (λ c. none c.before.before.before.args.c (inr (omega arith)) (inl (omega arith)) (inl (omega arith)))  -- returns-5
-    (λ c. none c.before.before.before.before.before.args.c (inr (omega arith)) (inr (omega arith)) (inl (omega arith)))  -- returns-6
-    (λ c. none c.before.before.before.before.before.before.args.c (inr (omega arith)) (inr (omega arith)) (inr (omega arith)))  -- returns-7
+    (λ c. search rules)  -- overflow_cast-result
+    (λ c. search rules)  -- overflow_sub-result-in-65-to-70
+    (λ c. search rules)  -- overflow_cast-result-in-65-to-70
+    (λ c. search rules)  -- overflow_sub-result-in-97-to-102
+    (λ c. search rules)  -- overflow_cast-result-in-97-to-102
+    (λ c. search (tests, rules))  -- returns-in-48-to-57
+    (λ c. search (tests, rules))  -- returns-in-65-to-70
+    (λ c. search (tests, rules))  -- returns-in-97-to-102
+    (λ c. none c.before.args.c (inl (omega arith)) (inl (omega arith)) (inl (omega arith)))  -- returns-in_default
+    (λ c. none c.before.before.before.args.c (inr (omega arith)) (inl (omega arith)) (inl (omega arith)))  -- returns-in_default-2
+    (λ c. none c.before.before.before.before.before.args.c (inr (omega arith)) (inr (omega arith)) (inl (omega arith)))  -- returns-in_default-3
+    (λ c. none c.before.before.before.before.before.before.args.c (inr (omega arith)) (inr (omega arith)) (inr (omega arith)))  -- returns-in_default-4
     )

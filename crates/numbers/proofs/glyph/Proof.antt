@@ -10,10 +10,10 @@ unfolding glyph
 glyph_spec =
     tie.close
     (tie.spec
-    (λ c. search rules)  -- cast-result
-    (λ c. search rules)  -- add-result
-    (λ c. search rules)  -- cast-result-2
-    (λ c. search rules)  -- add-result-2
-    (λ c. search (tests, rules))  -- returns
-    (λ c. search (tests, rules))  -- returns-2
+    (λ c. search rules)  -- overflow_cast-result
+    (λ c. search rules)  -- overflow_add-result
+    (λ c. search rules)  -- overflow_cast-result-else-d-lt10
+    (λ c. search rules)  -- overflow_add-result-else-d-lt10
+    (λ c. search (tests, rules))  -- returns-then-d-lt10
+    (λ c. search (tests, rules))  -- returns-else-d-lt10
     )

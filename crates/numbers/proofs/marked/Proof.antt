@@ -21,9 +21,9 @@ unfolding marked
 marked_spec =
     tie.close
     (tie.spec
-    (λ c. short c.before.args.s.now (omega arith))  -- returns
-    (λ c. search rules)  -- shared-slice-read-if2
-    (λ c. simp (ne_eqb _ _ c.if2.true))  -- returns-2
-    (λ c. search rules)  -- shared-slice-read-result
-    (λ c. rw (eq-eqb _ _ c.before.if2.false))  -- returns-3
+    (λ c. short c.before.args.s.now (omega arith))  -- returns-then-s-lt2
+    (λ c. search rules)  -- bounds-s-0
+    (λ c. simp (ne_eqb _ _ c.if-s-ne48.true))  -- returns-then-s-ne48
+    (λ c. search rules)  -- bounds-s-1
+    (λ c. rw (eq-eqb _ _ c.before.if-s-ne48.false))  -- returns
     )

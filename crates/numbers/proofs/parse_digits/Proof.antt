@@ -10,8 +10,8 @@ unfolding number_in
 parse_digits_spec =
     tie.close
     (tie.spec
-    (λ c κs. search rules)  -- well-formed-requires
+    (λ c κs. search rules)  -- well_formed-requires
     (λ c κs. search rules)  -- value-requires
-    (λ c. rw (sym c.before.before.well-formed-2.ensures ∙ c.before.if1.true) c.value.ensures)  -- returns
-    (λ c. rw (sym c.before.well-formed-2.ensures ∙ c.if1.false))  -- returns-2
+    (λ c. rw (sym c.before.before.well-formed-2.ensures ∙ c.before.if-well_formed.true) c.value.ensures)  -- returns-then-well_formed
+    (λ c. rw (sym c.before.well-formed-2.ensures ∙ c.if-well_formed.false))  -- returns-else-well_formed
     )

@@ -11,8 +11,8 @@ parse_number_spec =
     tie.close
     (tie.spec
     (λ c κs. search rules)  -- marked-requires
-    (λ c κs. search rules)  -- parse-digits-requires
-    (λ c κs. search rules)  -- parse-decimal-requires
-    (λ c. rw (sym c.before.before.marked.ensures ∙ c.before.if1.true) c.parse_digits.ensures)  -- returns
-    (λ c. rw (sym c.before.before.marked.ensures ∙ c.before.if1.false) c.parse-decimal.ensures)  -- returns-2
+    (λ c κs. search rules)  -- parse_digits-requires
+    (λ c κs. search rules)  -- parse_decimal-requires
+    (λ c. rw (sym c.before.before.marked.ensures ∙ c.before.if-marked.true) c.parse_digits.ensures)  -- returns-then-marked
+    (λ c. rw (sym c.before.before.marked.ensures ∙ c.before.if-marked.false) c.parse_decimal.ensures)  -- returns-else-marked
     )

@@ -9,7 +9,7 @@ unfolding separates
 separates_spec =
     tie.close
     (tie.spec
-    (λ c. simp (not-true c.before.args.after c.if1.true))  -- returns
-    (λ c. simp (not-false c.before.before.args.after c.before.if1.false, ne_eqb _ _ c.if2.true))  -- returns-2
-    (λ c. simp (not-false c.before.before.args.after c.before.if1.false, eq-eqb _ _ c.if2.false))  -- returns-3
+    (λ c. simp (not-true c.before.args.after c.if-not-after.true))  -- returns-then-not-after
+    (λ c. simp (not-false c.before.before.args.after c.before.if-not-after.false, ne_eqb _ _ c.if-base-ne16.true))  -- returns-then-base-ne16
+    (λ c. simp (not-false c.before.before.args.after c.before.if-not-after.false, eq-eqb _ _ c.if-base-ne16.false))  -- returns
     )

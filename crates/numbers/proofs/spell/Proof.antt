@@ -11,16 +11,16 @@ use Rattle.numbers.proofs.Printed.{digits_one, digits_more, more_places, fewer_p
 use Rattle.numbers.proofs.spell.Statement.{statement}
 use Rattle.numbers.proofs.spell.Tie as tie
 
-abbrev invariant_loop : tie.invariant_loop
+abbrev invariant_loop : tie.invariant-loop-rest
 invariant_loop n base bytes₀ start₀ rest₀ bytes start rest =
     (rest < base ^ suc start) × ((t : List ℕ) × (bytes ≡ replicate (suc start) 0 ++ t) × (suc start + length t ≡ 20) × (digits_of base rest ++ t ≡ digits_of base n))
 
-abbrev decreases_loop : tie.decreases_loop
+abbrev decreases_loop : tie.decreases-loop-rest
 decreases_loop n base bytes₀ start₀ rest₀ bytes start rest = start
 
 -- A turn leaves a place for the digits that are left.
-further : (c : tie.After-glyph invariant_loop decreases_loop) → 0 < c.before.before.loop.start
-further c = more_places c.before.before.before.args.base c.before.before.loop.rest c.before.before.loop.start c.before.loop-test.true c.before.before.loop.invariant.0
+further : (c : tie.After-glyph invariant_loop decreases_loop) → 0 < c.before.before.loop-rest.start
+further c = more_places c.before.before.before.args.base c.before.before.loop-rest.rest c.before.before.loop-rest.start c.before.loop-rest-test.true c.before.before.loop-rest.invariant.0
 
 -- The last digit of a number before a text, and the digits of the quotient before both.
 before_text : (base n g : ℕ) (t : List ℕ) → 1 < base → base ≤ n → g ≡ glyph (n % base) → digits_of base (n / base) ++ (g ∷ t) ≡ digits_of base n ++ t
@@ -35,15 +35,15 @@ spell_spec =
     invariant_loop
     decreases_loop
     (λ c. (c.requires.1.1, ([], refl, refl, append-nil (digits_of c.args.base c.args.n))))  -- loop-holds
-    (λ c. omega arith)  -- rem-glyph
-    (λ c κs. omega (arith, mod-lt c.before.loop.rest {m = c.before.before.args.base} (omega arith)))  -- glyph-requires
-    (λ c. omega arith)  -- array-write-bytes
-    (λ c. further c)  -- sub-start
-    (λ c. omega arith)  -- div-rest
+    (λ c. omega arith)  -- nonzero_rem-rest
+    (λ c κs. omega (arith, mod-lt c.before.loop-rest.rest {m = c.before.before.args.base} (omega arith)))  -- glyph-requires
+    (λ c. omega arith)  -- bounds-bytes-start
+    (λ c. further c)  -- overflow_sub-start
+    (λ c. omega arith)  -- nonzero_div-rest
     (λ c. omega (arith, further c))  -- loop-less
     (λ c.
     let a = c.before.before.before.args in
-    let l = c.before.before.loop in
+    let l = c.before.before.loop-rest in
     let h = further c in
     let e : suc (l.start - 1) ≡ l.start = omega arith in
     let t = l.invariant.1.0 in (
@@ -52,16 +52,16 @@ spell_spec =
         c.glyph.result ∷ t,
         ap (λ b. set b l.start c.glyph.result) l.invariant.1.1 ∙ stored l.start c.glyph.result t ∙ ap (λ k. replicate k 0 ++ (c.glyph.result ∷ t)) (sym e),
         omega arith,
-        before_text a.base l.rest c.glyph.result t (omega arith) c.before.loop-test.true c.glyph.ensures ∙ l.invariant.1.3,
+        before_text a.base l.rest c.glyph.result t (omega arith) c.before.loop-rest-test.true c.glyph.ensures ∙ l.invariant.1.3,
       ),
     ))  -- loop-again
     (λ c κs. omega arith)  -- glyph-requires-2
-    (λ c. omega arith)  -- array-write-bytes-2
+    (λ c. omega arith)  -- bounds-bytes-start-2
     (λ c.
     let a = c.before.before.before.args in
-    let l = c.before.before.loop in
+    let l = c.before.before.loop-rest in
     let t = l.invariant.1.0 in
-    let g = c.glyph2.result in
-    let e : g ∷ t ≡ digits_of a.base a.n = ap (λ x. x ∷ t) c.glyph2.ensures ∙ ap (λ s. s ++ t) (sym (digits_one a.base l.rest c.before.loop-test.false)) ∙ l.invariant.1.3 in
+    let g = c.glyph-2.result in
+    let e : g ∷ t ≡ digits_of a.base a.n = ap (λ x. x ∷ t) c.glyph-2.ensures ∙ ap (λ s. s ++ t) (sym (digits_one a.base l.rest c.before.loop-rest-test.false)) ∙ l.invariant.1.3 in
     ended_at l.start (set l.bytes l.start g) (g ∷ t) (ap (λ b. set b l.start g) l.invariant.1.1 ∙ stored l.start g t) (omega arith) ∙ ap ended e)  -- returns
     )
