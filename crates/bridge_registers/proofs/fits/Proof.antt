@@ -9,10 +9,10 @@ unfolding sized
 fits_spec =
     tie.close
     (tie.spec
-    (λ c. search rules)  -- enum_told
-    (λ c. search rules)  -- enum-told-2
-    (λ c. search rules)  -- enum-told-3
-    (λ c. search (tests, c.enum_told.given.1))  -- returns
-    (λ c. search (tests, c.enum-told2.given.1))  -- returns-2
-    (λ c. search (tests, c.enum-told3.given.1))  -- returns-3
+    (λ c. search rules)  -- enum_told-1
+    (λ c. search rules)  -- enum_told-in-Zero
+    (λ c. search rules)  -- enum_told-in-Byte
+    (λ c. search (tests, c.in-Word.is))  -- returns-in-Word
+    (λ c. search (tests, c.in-Zero.is))  -- returns-in-Zero
+    (λ c. search (tests, c.in-Byte.is))  -- returns-in-Byte
     )

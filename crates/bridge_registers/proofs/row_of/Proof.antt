@@ -9,36 +9,36 @@ unfolding row_of
 row_of_spec =
     tie.close
     (tie.spec
-    (λ c. search rules)  -- enum_told
-    (λ c κs. search rules)  -- row-with-requires
-    (λ c. search rules)  -- enum-told-2
-    (λ c κs. search rules)  -- row-with-requires-2
-    (λ c. search rules)  -- enum-told-3
-    (λ c κs. search rules)  -- row-with-requires-3
-    (λ c. search rules)  -- enum-told-4
-    (λ c κs. search rules)  -- row-with-requires-4
-    (λ c. search rules)  -- enum-told-5
-    (λ c κs. search rules)  -- row-with-requires-5
-    (λ c. search rules)  -- enum-told-6
-    (λ c κs. search rules)  -- row-with-requires-6
-    (λ c. search rules)  -- enum-told-7
-    (λ c κs. search rules)  -- row-with-requires-7
-    (λ c. search rules)  -- enum-told-8
-    (λ c κs. search rules)  -- row-with-requires-8
-    (λ c. search rules)  -- enum-told-9
-    (λ c κs. search rules)  -- row-with-requires-9
-    (λ c. search rules)  -- enum-told-10
-    (λ c κs. search rules)  -- row-with-requires-10
-    (λ c. search rules)  -- enum-known-register
-    (λ c. search (tests, ← c.row-with.ensures, c.before.enum_told.given.1))  -- returns
-    (λ c. search (tests, ← c.row-with2.ensures, c.before.enum-told2.given.1))  -- returns-2
-    (λ c. search (tests, ← c.row-with3.ensures, c.before.enum-told3.given.1))  -- returns-3
-    (λ c. search (tests, ← c.row-with4.ensures, c.before.enum-told4.given.1))  -- returns-4
-    (λ c. search (tests, ← c.row-with5.ensures, c.before.enum-told5.given.1))  -- returns-5
-    (λ c. search (tests, ← c.row-with6.ensures, c.before.enum-told6.given.1))  -- returns-6
-    (λ c. search (tests, ← c.row-with7.ensures, c.before.enum-told7.given.1))  -- returns-7
-    (λ c. search (tests, ← c.row-with8.ensures, c.before.enum-told8.given.1))  -- returns-8
-    (λ c. search (tests, ← c.row-with9.ensures, c.before.enum-told9.given.1))  -- returns-9
-    (λ c. search (tests, ← c.row-with10.ensures, c.before.enum-told10.given.1))  -- returns-10
-    (λ c. search (tests, c.before.register.given.1))  -- returns-11
+    (λ c. search rules)  -- enum_told-1
+    (λ c κs. search rules)  -- row_with-requires
+    (λ c. search rules)  -- enum_told-in-MsiEn
+    (λ c κs. search rules)  -- row_with-requires-in-MsiEn
+    (λ c. search rules)  -- enum_told-in-IntEdge
+    (λ c κs. search rules)  -- row_with-requires-in-IntEdge
+    (λ c. search rules)  -- enum_told-in-SoftInt
+    (λ c κs. search rules)  -- row_with-requires-in-SoftInt
+    (λ c. search rules)  -- enum_told-in-AutoCtrl0
+    (λ c κs. search rules)  -- row_with-requires-in-AutoCtrl0
+    (λ c. search rules)  -- enum_told-in-AutoCtrl1
+    (λ c κs. search rules)  -- row_with-requires-in-AutoCtrl1
+    (λ c. search rules)  -- enum_told-in-IntClr
+    (λ c κs. search rules)  -- row_with-requires-in-IntClr
+    (λ c. search rules)  -- enum_told-in-IntIsrChip0
+    (λ c κs. search rules)  -- row_with-requires-in-IntIsrChip0
+    (λ c. search rules)  -- enum_told-in-IntIsrChip1
+    (λ c κs. search rules)  -- row_with-requires-in-IntIsrChip1
+    (λ c. search rules)  -- enum_told-in-IntIrr
+    (λ c κs. search rules)  -- row_with-requires-in-IntIrr
+    (λ c. search rules)  -- enum_known-register
+    (λ c. search (tests, ← c.row_with.ensures, c.in-IntMask.is))  -- returns-in-IntMask
+    (λ c. search (tests, ← c.row_with-in-MsiEn.ensures, c.in-MsiEn.is))  -- returns-in-MsiEn
+    (λ c. search (tests, ← c.row_with-in-IntEdge.ensures, c.in-IntEdge.is))  -- returns-in-IntEdge
+    (λ c. search (tests, ← c.row_with-in-SoftInt.ensures, c.in-SoftInt.is))  -- returns-in-SoftInt
+    (λ c. search (tests, ← c.row_with-in-AutoCtrl0.ensures, c.in-AutoCtrl0.is))  -- returns-in-AutoCtrl0
+    (λ c. search (tests, ← c.row_with-in-AutoCtrl1.ensures, c.in-AutoCtrl1.is))  -- returns-in-AutoCtrl1
+    (λ c. search (tests, ← c.row_with-in-IntClr.ensures, c.in-IntClr.is))  -- returns-in-IntClr
+    (λ c. search (tests, ← c.row_with-in-IntIsrChip0.ensures, c.in-IntIsrChip0.is))  -- returns-in-IntIsrChip0
+    (λ c. search (tests, ← c.row_with-in-IntIsrChip1.ensures, c.in-IntIsrChip1.is))  -- returns-in-IntIsrChip1
+    (λ c. search (tests, ← c.row_with-in-IntIrr.ensures, c.in-IntIrr.is))  -- returns-in-IntIrr
+    (λ c. search (tests, c.in-RouteEntry.is))  -- returns-in-RouteEntry
     )

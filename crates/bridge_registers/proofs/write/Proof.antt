@@ -9,37 +9,37 @@ unfolding written_of
 write_spec =
     tie.close
     (tie.spec
-    (λ c. search rules)  -- enum_told
+    (λ c. search rules)  -- enum_told-1
     (λ c κs. search rules)  -- plain-requires
-    (λ c. search rules)  -- enum-told-2
-    (λ c κs. search rules)  -- plain-requires-2
-    (λ c. search rules)  -- enum-told-3
+    (λ c. search rules)  -- enum_told-in-MsiEn
+    (λ c κs. search rules)  -- plain-requires-in-MsiEn
+    (λ c. search rules)  -- enum_told-in-IntEdge
     (λ c κs. search rules)  -- changed-requires
-    (λ c. search rules)  -- enum-told-4
-    (λ c κs. search rules)  -- changed-requires-2
-    (λ c. search rules)  -- enum-told-5
-    (λ c κs. search rules)  -- changed-requires-3
-    (λ c. search rules)  -- enum-told-6
-    (λ c κs. search rules)  -- changed-requires-4
-    (λ c. search rules)  -- enum-told-7
-    (λ c κs. search rules)  -- changed-requires-5
-    (λ c. search rules)  -- enum-told-8
-    (λ c κs. search rules)  -- changed-requires-6
-    (λ c. search rules)  -- enum-told-9
-    (λ c κs. search rules)  -- changed-requires-7
-    (λ c. search rules)  -- enum-told-10
-    (λ c κs. search rules)  -- changed-requires-8
-    (λ c. search rules)  -- enum-known-register
-    (λ c κs. search rules)  -- plain-requires-3
-    (λ c. search (tests, ← c.plain.ensures, c.before.enum_told.given.1))  -- returns
-    (λ c. search (tests, ← c.plain2.ensures, c.before.enum-told2.given.1))  -- returns-2
-    (λ c. search (tests, ← c.changed.ensures, c.before.enum-told3.given.1))  -- returns-3
-    (λ c. search (tests, ← c.changed2.ensures, c.before.enum-told4.given.1))  -- returns-4
-    (λ c. search (tests, ← c.changed3.ensures, c.before.enum-told5.given.1))  -- returns-5
-    (λ c. search (tests, ← c.changed4.ensures, c.before.enum-told6.given.1))  -- returns-6
-    (λ c. search (tests, ← c.changed5.ensures, c.before.enum-told7.given.1))  -- returns-7
-    (λ c. search (tests, ← c.changed6.ensures, c.before.enum-told8.given.1))  -- returns-8
-    (λ c. search (tests, ← c.changed7.ensures, c.before.enum-told9.given.1))  -- returns-9
-    (λ c. search (tests, ← c.changed8.ensures, c.before.enum-told10.given.1))  -- returns-10
-    (λ c. search (tests, ← c.plain3.ensures, c.before.before.register.given.1))  -- returns-11
+    (λ c. search rules)  -- enum_told-in-SoftInt
+    (λ c κs. search rules)  -- changed-requires-in-SoftInt
+    (λ c. search rules)  -- enum_told-in-AutoCtrl0
+    (λ c κs. search rules)  -- changed-requires-in-AutoCtrl0
+    (λ c. search rules)  -- enum_told-in-AutoCtrl1
+    (λ c κs. search rules)  -- changed-requires-in-AutoCtrl1
+    (λ c. search rules)  -- enum_told-in-IntClr
+    (λ c κs. search rules)  -- changed-requires-in-IntClr
+    (λ c. search rules)  -- enum_told-in-IntIsrChip0
+    (λ c κs. search rules)  -- changed-requires-in-IntIsrChip0
+    (λ c. search rules)  -- enum_told-in-IntIsrChip1
+    (λ c κs. search rules)  -- changed-requires-in-IntIsrChip1
+    (λ c. search rules)  -- enum_told-in-IntIrr
+    (λ c κs. search rules)  -- changed-requires-in-IntIrr
+    (λ c. search rules)  -- enum_known-register
+    (λ c κs. search rules)  -- plain-requires-in-RouteEntry
+    (λ c. search (tests, ← c.plain.ensures, c.in-IntMask.is))  -- returns-in-IntMask
+    (λ c. search (tests, ← c.plain-in-MsiEn.ensures, c.in-MsiEn.is))  -- returns-in-MsiEn
+    (λ c. search (tests, ← c.changed.ensures, c.in-IntEdge.is))  -- returns-in-IntEdge
+    (λ c. search (tests, ← c.changed-in-SoftInt.ensures, c.in-SoftInt.is))  -- returns-in-SoftInt
+    (λ c. search (tests, ← c.changed-in-AutoCtrl0.ensures, c.in-AutoCtrl0.is))  -- returns-in-AutoCtrl0
+    (λ c. search (tests, ← c.changed-in-AutoCtrl1.ensures, c.in-AutoCtrl1.is))  -- returns-in-AutoCtrl1
+    (λ c. search (tests, ← c.changed-in-IntClr.ensures, c.in-IntClr.is))  -- returns-in-IntClr
+    (λ c. search (tests, ← c.changed-in-IntIsrChip0.ensures, c.in-IntIsrChip0.is))  -- returns-in-IntIsrChip0
+    (λ c. search (tests, ← c.changed-in-IntIsrChip1.ensures, c.in-IntIsrChip1.is))  -- returns-in-IntIsrChip1
+    (λ c. search (tests, ← c.changed-in-IntIrr.ensures, c.in-IntIrr.is))  -- returns-in-IntIrr
+    (λ c. search (tests, ← c.plain-in-RouteEntry.ensures, c.in-RouteEntry.is))  -- returns-in-RouteEntry
     )
