@@ -1,3 +1,4 @@
+use native.Mathlib.Omega.{arith}
 use mathlib.Core.Path.{sym}
 use mathlib.Core.Logic.{inl}
 use Rattle.node_registers.specs.Table.{entry_at, table}
@@ -12,22 +13,22 @@ unfolding entry_at table
 entry_at_spec =
     tie.close
     (tie.spec
-    (λ c κs. search rules)  -- found-as-requires
-    (λ c κs. search rules)  -- found-as-requires-2
-    (λ c κs. search rules)  -- found-as-requires-3
-    (λ c κs. search rules)  -- found-as-requires-4
-    (λ c κs. search rules)  -- found-as-requires-5
-    (λ c κs. search rules)  -- found-as-requires-6
-    (λ c κs. search rules)  -- found-as-requires-7
-    (λ c κs. search rules)  -- found-as-requires-8
-    (λ c. rw (c.found_as.ensures, c.before.match.keys1))  -- returns
-    (λ c. rw (c.found-as2.ensures, c.before.match.keys2))  -- returns-2
-    (λ c. rw (c.found-as3.ensures, c.before.match.keys3))  -- returns-3
-    (λ c. rw (c.found-as4.ensures, c.before.match.keys4))  -- returns-4
-    (λ c. rw (c.found-as5.ensures, c.before.match.keys5))  -- returns-5
-    (λ c. rw (c.found-as6.ensures, c.before.match.keys6))  -- returns-6
-    (λ c. rw (c.found-as7.ensures, c.before.match.keys7))  -- returns-7
-    (λ c. rw c.found-as8.ensures (sym (routes _ c.before.before.if1.false c.before.if2.true)))  -- returns-8
-    (λ c. sym (nothing _ (inl c.if1.true)))  -- returns-9
-    (λ c. rw (behind _ c.if2.false) (search (tests, c.before.before.match.rest)))  -- returns-10
+    (λ c κs. search rules)  -- found_as-requires
+    (λ c κs. search rules)  -- found_as-requires-in-5156
+    (λ c κs. search rules)  -- found_as-requires-in-5160
+    (λ c κs. search rules)  -- found_as-requires-in-5164
+    (λ c κs. search rules)  -- found_as-requires-in-5172
+    (λ c κs. search rules)  -- found_as-requires-in-5184
+    (λ c κs. search rules)  -- found_as-requires-in-5192
+    (λ c κs. search rules)  -- found_as-requires-in-5120-to-5151
+    (λ c. rw (c.found_as.ensures, c.in-5152.is))  -- returns-in-5152
+    (λ c. rw (c.found_as-in-5156.ensures, c.in-5156.is))  -- returns-in-5156
+    (λ c. rw (c.found_as-in-5160.ensures, c.in-5160.is))  -- returns-in-5160
+    (λ c. rw (c.found_as-in-5164.ensures, c.in-5164.is))  -- returns-in-5164
+    (λ c. rw (c.found_as-in-5172.ensures, c.in-5172.is))  -- returns-in-5172
+    (λ c. rw (c.found_as-in-5184.ensures, c.in-5184.is))  -- returns-in-5184
+    (λ c. rw (c.found_as-in-5192.ensures, c.in-5192.is))  -- returns-in-5192
+    (λ c. rw c.found_as-in-5120-to-5151.ensures (sym (routes _ (omega arith) (omega arith))))  -- returns-in-5120-to-5151
+    (λ c. sym (nothing c.args.offset (inl (omega arith))))  -- returns-in_default
+    (λ c. rw (behind c.args.offset (omega arith)) (search (tests, c.in_default.in_default-own.rest)))  -- returns-in_default-2
     )

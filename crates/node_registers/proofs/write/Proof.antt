@@ -9,25 +9,25 @@ unfolding written_of
 write_spec =
     tie.close
     (tie.spec
-    (λ c. search rules)  -- enum_told
+    (λ c. search rules)  -- enum_told-1
     (λ c κs. search rules)  -- changed-requires
-    (λ c. search rules)  -- enum-told-2
-    (λ c κs. search rules)  -- changed-requires-2
-    (λ c. search rules)  -- enum-told-3
+    (λ c. search rules)  -- enum_told-in-Inten
+    (λ c κs. search rules)  -- changed-requires-in-Inten
+    (λ c. search rules)  -- enum_told-in-Intenset
     (λ c κs. search rules)  -- plain-requires
-    (λ c. search rules)  -- enum-told-4
-    (λ c κs. search rules)  -- plain-requires-2
-    (λ c. search rules)  -- enum-told-5
-    (λ c κs. search rules)  -- changed-requires-3
-    (λ c. search rules)  -- enum-told-6
-    (λ c κs. search rules)  -- changed-requires-4
-    (λ c. search rules)  -- enum-known-register
-    (λ c κs. search rules)  -- plain-requires-3
-    (λ c. search (tests, ← c.changed.ensures, c.before.enum_told.given.1))  -- returns
-    (λ c. search (tests, ← c.changed2.ensures, c.before.enum-told2.given.1))  -- returns-2
-    (λ c. search (tests, ← c.plain.ensures, c.before.enum-told3.given.1))  -- returns-3
-    (λ c. search (tests, ← c.plain2.ensures, c.before.enum-told4.given.1))  -- returns-4
-    (λ c. search (tests, ← c.changed3.ensures, c.before.enum-told5.given.1))  -- returns-5
-    (λ c. search (tests, ← c.changed4.ensures, c.before.enum-told6.given.1))  -- returns-6
-    (λ c. search (tests, ← c.plain3.ensures, c.before.before.register.given.1))  -- returns-7
+    (λ c. search rules)  -- enum_told-in-Intenclr
+    (λ c κs. search rules)  -- plain-requires-in-Intenclr
+    (λ c. search rules)  -- enum_told-in-Intedge
+    (λ c κs. search rules)  -- changed-requires-in-Intedge
+    (λ c. search rules)  -- enum_told-in-CoreIntisr
+    (λ c κs. search rules)  -- changed-requires-in-CoreIntisr
+    (λ c. search rules)  -- enum_known-register
+    (λ c κs. search rules)  -- plain-requires-in-Entry
+    (λ c. search (tests, ← c.changed.ensures, c.in-Intisr.is))  -- returns-in-Intisr
+    (λ c. search (tests, ← c.changed-in-Inten.ensures, c.in-Inten.is))  -- returns-in-Inten
+    (λ c. search (tests, ← c.plain.ensures, c.in-Intenset.is))  -- returns-in-Intenset
+    (λ c. search (tests, ← c.plain-in-Intenclr.ensures, c.in-Intenclr.is))  -- returns-in-Intenclr
+    (λ c. search (tests, ← c.changed-in-Intedge.ensures, c.in-Intedge.is))  -- returns-in-Intedge
+    (λ c. search (tests, ← c.changed-in-CoreIntisr.ensures, c.in-CoreIntisr.is))  -- returns-in-CoreIntisr
+    (λ c. search (tests, ← c.plain-in-Entry.ensures, c.in-Entry.is))  -- returns-in-Entry
     )

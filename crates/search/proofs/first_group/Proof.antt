@@ -12,10 +12,10 @@ use Rattle.search.proofs.First.{None, is_first, one_more}
 use Rattle.search.proofs.first_group.Statement.{statement}
 use Rattle.search.proofs.first_group.Tie as tie
 
-abbrev invariant_loop : tie.invariant_loop
+abbrev invariant_loop : tie.invariant-loop-groups
 invariant_loop w groups₀ groups = (groups ≤ 8) × None groups (λ g. some 8 (in_group 8 (bit w) g))
 
-abbrev decreases_loop : tie.decreases_loop
+abbrev decreases_loop : tie.decreases-loop-groups
 decreases_loop w groups₀ groups = 8 - groups
 
 pub first_group_spec : {M : Type 1} → statement M
@@ -25,16 +25,16 @@ first_group_spec =
     invariant_loop
     decreases_loop
     (λ c. (search rules, λ i h. absurd (omega arith)))  -- loop-holds
-    (λ c. search rules)  -- add-groups
+    (λ c. search rules)  -- overflow_add-groups
     (λ c κs. search rules)  -- group-requires
     (λ c.
-    let inv = c.before.before.before.loop.invariant
-    in sym (is_first 8 _ _ inv.0 inv.1 (λ l. sym (some_is 8 _ c.before.group.ensures) ∙ ap not (ne_eqb _ 0 c.if1.true))))  -- returns
+    let inv = c.before.before.before.loop-groups.invariant
+    in sym (is_first 8 _ _ inv.0 inv.1 (λ l. sym (some_is 8 _ c.before.group.ensures) ∙ ap not (ne_eqb _ 0 c.if-group-ne0.true))))  -- returns-then-group-ne0
     (λ c. search rules)  -- loop-less
     (λ c.
-    let inv = c.before.before.before.loop.invariant
-    in (search rules, one_more _ inv.1 (sym (some_is 8 _ c.before.group.ensures) ∙ ap not (eq-eqb _ 0 c.if1.false))))  -- loop-again
+    let inv = c.before.before.before.loop-groups.invariant
+    in (search rules, one_more _ inv.1 (sym (some_is 8 _ c.before.group.ensures) ∙ ap not (eq-eqb _ 0 c.if-group-ne0.false))))  -- loop-again
     (λ c.
-    let e : c.before.loop.groups ≡ 8 = omega arith
-    in sym (is_first 8 _ 8 (omega arith) (rw e at c.before.loop.invariant.1) (λ l. absurd (omega arith))))  -- returns-2
+    let e : c.before.loop-groups.groups ≡ 8 = omega arith
+    in sym (is_first 8 _ 8 (omega arith) (rw e at c.before.loop-groups.invariant.1) (λ l. absurd (omega arith))))  -- returns
     )

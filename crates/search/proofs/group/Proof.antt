@@ -8,7 +8,7 @@ pub group_spec : {M : Type 1} → statement M
 group_spec =
     tie.close
     (tie.spec
-    (λ c. search rules)  -- mul-result
-    (λ c. search rules)  -- shr-result
+    (λ c. search rules)  -- overflow_mul-result
+    (λ c. search rules)  -- overflow_shr-result
     (λ c. sym (word_mod 8 _) ∙ word_cong 8 (λ j h. bit_shr _ _ j))  -- returns
     )

@@ -17,17 +17,17 @@ unfolding by_groups
 lowest_spec =
     tie.close
     (tie.spec
-    (λ c κs. search rules)  -- first-group-requires
-    (λ c. search rules)  -- mul-result
+    (λ c κs. search rules)  -- first_group-g-requires
+    (λ c. search rules)  -- overflow_mul-result
     (λ c κs. search rules)  -- group-requires
-    (λ c κs. search rules)  -- lowest-in-requires
+    (λ c κs. search rules)  -- lowest_in-requires
     (λ c.
-    let h : c.lowest-in.result ≤ 8 = rw c.lowest-in.ensures (first_le 8 _)
-    in search rules)  -- add-result
+    let h : c.lowest_in.result ≤ 8 = rw c.lowest_in.ensures (first_le 8 _)
+    in search rules)  -- overflow_add-result
     (λ c.
     let w = c.before.before.before.before.args.w in
-    let e = c.before.before.before.first_group.ensures in
-    rw (← group_search 8 8 (bit w), ← e, lt-ltb _ 8 c.before.before.if1.true, c.lowest-in.ensures, c.before.group.ensures)
-    (ap (λ (j : ℕ). 8 * c.before.before.before.first_group.result + j) (first_cong 8 (bit_word 8 _))))  -- returns
-    (λ c. rw (← group_search 8 8 (bit c.before.before.args.w), ← c.before.first_group.ensures, le-ltb _ 8 c.if1.false))  -- returns-2
+    let e = c.before.before.before.first_group-g.ensures in
+    rw (← group_search 8 8 (bit w), ← e, lt-ltb _ 8 c.before.before.if-g-lt8.true, c.lowest_in.ensures, c.before.group.ensures)
+    (ap (λ (j : ℕ). 8 * c.before.before.before.first_group-g.result + j) (first_cong 8 (bit_word 8 _))))  -- returns-then-g-lt8
+    (λ c. rw (← group_search 8 8 (bit c.before.before.args.w), ← c.before.first_group-g.ensures, le-ltb _ 8 c.if-g-lt8.false))  -- returns
     )

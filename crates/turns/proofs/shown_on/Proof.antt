@@ -7,9 +7,9 @@ pub shown_on_spec : {M : Type 1} → statement M
 shown_on_spec =
     tie.close
     (tie.spec
-    (λ c κs. search rules)  -- gather-requires
+    (λ c κs. search rules)  -- gather-sources-requires
     (λ c κs. search rules)  -- both-requires
-    (λ c κs. search rules)  -- gather-requires-2
+    (λ c κs. search rules)  -- gather-requires
     (λ c κs. search rules)  -- without-requires
-    (λ c. rw (c.without.ensures, c.before.gather2.ensures, c.before.before.both.ensures, c.before.before.before.gather.ensures) (shown_words _ _ _ _ _))  -- returns
+    (λ c. rw (c.without.ensures, c.before.gather.ensures, c.before.before.both.ensures, c.before.before.before.gather-sources.ensures) (shown_words _ _ _ _ _))  -- returns
     )

@@ -8,6 +8,6 @@ shown_on_0_spec =
     tie.close
     (tie.spec
     (λ c κs. search rules)  -- both-requires
-    (λ c κs. search rules)  -- shown-on-requires
-    (λ c. rw (c.shown-on.ensures, c.before.both.ensures) (at_0 _ _ _ _))  -- returns
+    (λ c κs. search rules)  -- shown_on-requires
+    (λ c. rw (c.shown_on.ensures, c.before.both.ensures) (at_0 _ _ _ _))  -- returns
     )

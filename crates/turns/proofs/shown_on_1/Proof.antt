@@ -8,6 +8,6 @@ shown_on_1_spec =
     tie.close
     (tie.spec
     (λ c κs. search rules)  -- without-requires
-    (λ c κs. search rules)  -- shown-on-requires
-    (λ c. rw (c.shown-on.ensures, c.before.without.ensures) (at_1 _ _ _ _))  -- returns
+    (λ c κs. search rules)  -- shown_on-requires
+    (λ c. rw (c.shown_on.ensures, c.before.without.ensures) (at_1 _ _ _ _))  -- returns
     )

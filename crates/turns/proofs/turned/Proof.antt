@@ -8,9 +8,9 @@ turned_spec =
     tie.close
     (tie.spec
     (λ c κs. search rules)  -- without-requires
-    (λ c κs. search rules)  -- both-requires
+    (λ c κs. search rules)  -- both-fallen-requires
     (λ c κs. search rules)  -- gather-requires
     (λ c κs. search rules)  -- gather-requires-2
-    (λ c κs. search rules)  -- moved-on-requires
-    (λ c. rw (c.moved_on.ensures, c.before.gather2.ensures, c.before.before.gather.ensures, c.before.before.before.both.ensures, c.before.before.before.before.without.ensures) (moved_on _ _ _ _ _))  -- returns
+    (λ c κs. search rules)  -- moved_on-requires
+    (λ c. rw (c.moved_on.ensures, c.before.gather-2.ensures, c.before.before.gather.ensures, c.before.before.before.both-fallen.ensures, c.before.before.before.before.without.ensures) (moved_on _ _ _ _ _))  -- returns
     )

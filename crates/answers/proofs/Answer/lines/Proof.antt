@@ -14,11 +14,11 @@ unfolding lines_word
 lines_spec =
     tie.close
     (tie.spec
-    (λ c. search rules)  -- cast-result
-    (λ c. search rules)  -- cast-result-2
-    (λ c. search rules)  -- cast-result-3
-    (λ c. search rules)  -- cast-result-4
-    (λ c. search rules)  -- cast-result-5
+    (λ c. search rules)  -- overflow_cast-result
+    (λ c. search rules)  -- overflow_cast-result-2
+    (λ c. search rules)  -- overflow_cast-result-3
+    (λ c. search rules)  -- overflow_cast-result-4
+    (λ c. search rules)  -- overflow_cast-result-5
     (λ c.
     let a = c.before.before.before.before.before.args.self
     in let f : ℕ → Bool = λ i. get_or (first_four a) i false

@@ -9,8 +9,8 @@ unfolding outcome_data
 data_spec =
     tie.close
     (tie.spec
-    (λ c. search rules)  -- enum-known-self
-    (λ c. search rules)  -- enum_told
-    (λ c. search (tests, c.before.self.given.1))  -- returns
-    (λ c. search (tests, c.enum_told.given.1))  -- returns-2
+    (λ c. search rules)  -- enum_known-self
+    (λ c. search rules)  -- enum_told-1
+    (λ c. search (tests, c.in-Value.is))  -- returns-in-Value
+    (λ c. search (tests, c.in-Refused.is))  -- returns-in-Refused
     )

@@ -9,9 +9,9 @@ unfolding outcome_number
 number_spec =
     tie.close
     (tie.spec
-    (λ c. search rules)  -- enum_told
-    (λ c. search rules)  -- enum-known-self
-    (λ c κs. search rules)  -- refusal-number-requires
-    (λ c. search (tests, c.enum_told.given.1))  -- returns
-    (λ c. search (tests, ← c.refusal-number.ensures, c.before.before.self.given.1))  -- returns-2
+    (λ c. search rules)  -- enum_told-1
+    (λ c. search rules)  -- enum_known-self
+    (λ c κs. search rules)  -- refusal_number-requires
+    (λ c. search (tests, c.in-Value.is))  -- returns-in-Value
+    (λ c. search (tests, ← c.refusal_number.ensures, c.in-Refused.is))  -- returns-in-Refused
     )
