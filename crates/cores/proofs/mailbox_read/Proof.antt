@@ -6,6 +6,6 @@ pub mailbox_read_spec : {M : Type 1} → statement M
 mailbox_read_spec =
     tie.close
     (tie.spec
-    (λ c. search (tests, c.if1.true))  -- returns
-    (λ c. search (tests, c.if1.false))  -- returns-2
+    (λ c. search (tests, c.if-width-eq8.true))  -- returns-then-width-eq8
+    (λ c. search (tests, c.if-width-eq8.false))  -- returns-else-width-eq8
     )

@@ -11,16 +11,16 @@ pub entry_at_spec : {M : Type 1} → statement M
 entry_at_spec =
     tie.close
     (tie.spec
-    (λ c κs. search rules)  -- entry-of-requires
-    (λ c κs. search rules)  -- entry-of-requires-2
-    (λ c κs. search rules)  -- entry-of-requires-3
-    (λ c κs. search rules)  -- entry-of-requires-4
-    (λ c κs. search rules)  -- mailbox-at-requires
-    (λ c. rw by_range (search (tests, ← c.entry_of.ensures, c.before.match.keys1)))  -- returns
-    (λ c. rw by_range (search (tests, ← c.entry-of2.ensures, c.before.match.keys2)))  -- returns-2
-    (λ c. rw by_range (search (tests, ← c.entry-of3.ensures, c.before.match.keys3)))  -- returns-3
-    (λ c. rw by_range (search (tests, ← c.entry-of4.ensures, c.before.match.keys4)))  -- returns-4
-    (λ c. c.mailbox-at.ensures ∙ ap entry_at (add-sub_of_le c.before.before.if1.false))  -- returns-5
-    (λ c. rw by_range (search (tests, c.if1.true, c.before.match.rest)))  -- returns-6
-    (λ c. rw by_range (search (tests, c.if2.false, c.before.if1.false, c.before.before.match.rest)))  -- returns-7
+    (λ c κs. search rules)  -- entry_of-requires
+    (λ c κs. search rules)  -- entry_of-requires-in-4100
+    (λ c κs. search rules)  -- entry_of-requires-in-4104
+    (λ c κs. search rules)  -- entry_of-requires-in-4108
+    (λ c κs. search rules)  -- mailbox_at-requires
+    (λ c. rw by_range (search (tests, ← c.entry_of.ensures, c.before.in-4096.is)))  -- returns-in-4096
+    (λ c. rw by_range (search (tests, ← c.entry_of-in-4100.ensures, c.before.in-4100.is)))  -- returns-in-4100
+    (λ c. rw by_range (search (tests, ← c.entry_of-in-4104.ensures, c.before.in-4104.is)))  -- returns-in-4104
+    (λ c. rw by_range (search (tests, ← c.entry_of-in-4108.ensures, c.before.in-4108.is)))  -- returns-in-4108
+    (λ c. c.mailbox_at.ensures ∙ ap entry_at (add-sub_of_le c.in-4128-to-4159.if-offset-lt4128-own.false))  -- returns-in-4128-to-4159
+    (λ c. rw by_range (search (tests, c.in_default.if-offset-lt4128-own.true, c.in_default.in_default-own.rest)))  -- returns-in_default
+    (λ c. rw by_range (search (tests, c.in_default.if-offset-lt4160-own.false, c.in_default.if-offset-lt4128-own.false, c.in_default.in_default-own.rest)))  -- returns-in_default-2
     )

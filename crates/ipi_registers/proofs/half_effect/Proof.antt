@@ -7,8 +7,8 @@ pub half_effect_spec : {M : Type 1} → statement M
 half_effect_spec =
     tie.close
     (tie.spec
-    (λ c κs. search rules)  -- in-half-requires
-    (λ c κs. search rules)  -- in-half-requires-2
-    (λ c κs. search rules)  -- effect-on-requires
-    (λ c. search (tests, ← c.effect-on.ensures, ← c.before.in-half2.ensures, ← c.before.before.in-half.ensures))  -- returns
+    (λ c κs. search rules)  -- in_half-requires
+    (λ c κs. search rules)  -- in_half-requires-2
+    (λ c κs. search rules)  -- effect_on-requires
+    (λ c. search (tests, ← c.effect_on.ensures, ← c.before.in_half-2.ensures, ← c.before.before.in_half.ensures))  -- returns
     )

@@ -12,7 +12,7 @@ unfolding in_half
 in_half_spec =
     tie.close
     (tie.spec
-    (λ c. search rules)  -- mul-result
-    (λ c. rw c.match.keys1 (sym (mul-one _)))  -- returns
-    (λ c. let odd : c.before.args.h % 2 ≡ 1 = omega (arith, c.match.rest) in rw odd)  -- returns-2
+    (λ c. search rules)  -- overflow_mul-result
+    (λ c. rw c.in-0.is (sym (mul-one _)))  -- returns-in-0
+    (λ c. let odd : c.before.args.h % 2 ≡ 1 = omega (arith, c.in_default.in_default-own.rest) in rw odd)  -- returns-in_default
     )

@@ -12,9 +12,9 @@ unfolding ipi_sent
 ipi_effect_spec =
     tie.close
     (tie.spec
-    (λ c κs. search rules)  -- put-requires
-    (λ c κs. search rules)  -- effect-on-requires
+    (λ c κs. search rules)  -- put-vector-requires
+    (λ c κs. search rules)  -- effect_on-requires
     (λ c.
     let v = c.before.before.args.value
-    in simp (c.effect-on.ensures, c.before.put.ensures, put_one 64 (v % 32) (omega arith), div-one))  -- returns
+    in simp (c.effect_on.ensures, c.before.put-vector.ensures, put_one 64 (v % 32) (omega arith), div-one))  -- returns
     )

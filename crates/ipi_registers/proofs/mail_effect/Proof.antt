@@ -9,7 +9,7 @@ unfolding mail_sent
 mail_effect_spec =
     tie.close
     (tie.spec
-    (λ c κs. search rules)  -- written-bytes-requires
-    (λ c κs. search rules)  -- half-effect-requires
-    (λ c. search (tests, ← c.half-effect.ensures, ← c.before.written-bytes.ensures))  -- returns
+    (λ c κs. search rules)  -- written_bytes-requires
+    (λ c κs. search rules)  -- half_effect-requires
+    (λ c. search (tests, ← c.half_effect.ensures, ← c.before.written_bytes.ensures))  -- returns
     )

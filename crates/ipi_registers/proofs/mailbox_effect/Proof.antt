@@ -9,9 +9,9 @@ unfolding effect_of
 mailbox_effect_spec =
     tie.close
     (tie.spec
-    (λ c κs. search rules)  -- effect-on-requires
-    (λ c κs. search rules)  -- in-half-requires
-    (λ c κs. search rules)  -- effect-on-requires-2
-    (λ c. search (tests, ← c.effect-on.ensures, c.before.if1.true))  -- returns
-    (λ c. search (tests, ← c.effect-on2.ensures, ← c.before.in-half.ensures, c.before.before.if1.false))  -- returns-2
+    (λ c κs. search rules)  -- effect_on-requires
+    (λ c κs. search rules)  -- in_half-requires
+    (λ c κs. search rules)  -- effect_on-requires-else-width-eq8
+    (λ c. search (tests, ← c.effect_on.ensures, c.before.if-width-eq8.true))  -- returns-then-width-eq8
+    (λ c. search (tests, ← c.effect_on-else-width-eq8.ensures, ← c.before.in_half.ensures, c.before.before.if-width-eq8.false))  -- returns-else-width-eq8
     )

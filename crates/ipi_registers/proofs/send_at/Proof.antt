@@ -9,9 +9,9 @@ unfolding send_at sends
 send_at_spec =
     tie.close
     (tie.spec
-    (λ c κs. search rules)  -- entry-of-requires
-    (λ c κs. search rules)  -- entry-of-requires-2
-    (λ c. search (tests, ← c.entry_of.ensures, c.before.match.keys1))  -- returns
-    (λ c. search (tests, ← c.entry-of2.ensures, c.before.match.keys2))  -- returns-2
-    (λ c. search (tests, c.match.rest))  -- returns-3
+    (λ c κs. search rules)  -- entry_of-requires
+    (λ c κs. search rules)  -- entry_of-requires-in-4168
+    (λ c. search (tests, ← c.entry_of.ensures, c.before.in-4160.is))  -- returns-in-4160
+    (λ c. search (tests, ← c.entry_of-in-4168.ensures, c.before.in-4168.is))  -- returns-in-4168
+    (λ c. search (tests, c.in_default.in_default-own.rest))  -- returns-in_default
     )

@@ -9,22 +9,22 @@ unfolding target_of
 target_spec =
     tie.close
     (tie.spec
-    (λ c. search rules)  -- enum_told
-    (λ c. search rules)  -- enum-told-2
-    (λ c. search rules)  -- enum-told-3
-    (λ c. search rules)  -- enum-told-4
-    (λ c. search rules)  -- enum-told-5
-    (λ c. search rules)  -- enum-told-6
-    (λ c. search rules)  -- enum-told-7
-    (λ c κs. search rules)  -- target-field-requires
-    (λ c. search rules)  -- enum-told-8
-    (λ c κs. search rules)  -- target-field-requires-2
-    (λ c. search (tests, c.enum_told.given.1))  -- returns
-    (λ c. search (tests, c.enum-told2.given.1))  -- returns-2
-    (λ c. search (tests, c.enum-told3.given.1))  -- returns-3
-    (λ c. search (tests, c.enum-told4.given.1))  -- returns-4
-    (λ c. search (tests, c.enum-told5.given.1))  -- returns-5
-    (λ c. search (tests, c.enum-told6.given.1))  -- returns-6
-    (λ c. search (tests, ← c.target-field.ensures, c.before.enum-told7.given.1))  -- returns-7
-    (λ c. search (tests, ← c.target-field2.ensures, c.before.enum-told8.given.1))  -- returns-8
+    (λ c. search rules)  -- enum_told-1
+    (λ c. search rules)  -- enum_told-in-Enable
+    (λ c. search rules)  -- enum_told-in-Set
+    (λ c. search rules)  -- enum_told-in-Clear
+    (λ c. search rules)  -- enum_told-in-MailBox
+    (λ c. search rules)  -- enum_told-in-MailBoxHigh
+    (λ c. search rules)  -- enum_told-in-IpiSend
+    (λ c κs. search rules)  -- target_field-requires
+    (λ c. search rules)  -- enum_told-in-MailSend
+    (λ c κs. search rules)  -- target_field-requires-in-MailSend
+    (λ c. search (tests, c.in-Status.is))  -- returns-in-Status
+    (λ c. search (tests, c.in-Enable.is))  -- returns-in-Enable
+    (λ c. search (tests, c.in-Set.is))  -- returns-in-Set
+    (λ c. search (tests, c.in-Clear.is))  -- returns-in-Clear
+    (λ c. search (tests, c.in-MailBox.is))  -- returns-in-MailBox
+    (λ c. search (tests, c.in-MailBoxHigh.is))  -- returns-in-MailBoxHigh
+    (λ c. search (tests, ← c.target_field.ensures, c.before.in-IpiSend.is))  -- returns-in-IpiSend
+    (λ c. search (tests, ← c.target_field-in-MailSend.ensures, c.before.in-MailSend.is))  -- returns-in-MailSend
     )

@@ -9,29 +9,29 @@ unfolding effect_of
 write_effect_spec =
     tie.close
     (tie.spec
-    (λ c. search rules)  -- enum_told
-    (λ c κs. search rules)  -- effect-on-requires
-    (λ c. search rules)  -- enum-told-2
-    (λ c κs. search rules)  -- effect-on-requires-2
-    (λ c. search rules)  -- enum-told-3
-    (λ c κs. search rules)  -- effect-on-requires-3
-    (λ c. search rules)  -- enum-told-4
-    (λ c κs. search rules)  -- effect-on-requires-4
-    (λ c. search rules)  -- enum-known-register
-    (λ c κs. search rules)  -- mailbox-effect-requires
-    (λ c. search rules)  -- enum-known-register-2
-    (λ c κs. search rules)  -- in-half-requires
-    (λ c κs. search rules)  -- effect-on-requires-5
-    (λ c. search rules)  -- enum-told-5
-    (λ c κs. search rules)  -- ipi-effect-requires
-    (λ c. search rules)  -- enum-told-6
-    (λ c κs. search rules)  -- mail-effect-requires
-    (λ c. search (tests, ← c.effect-on.ensures, c.before.enum_told.given.1))  -- returns
-    (λ c. search (tests, ← c.effect-on2.ensures, c.before.enum-told2.given.1))  -- returns-2
-    (λ c. search (tests, ← c.effect-on3.ensures, c.before.enum-told3.given.1))  -- returns-3
-    (λ c. search (tests, ← c.effect-on4.ensures, c.before.enum-told4.given.1))  -- returns-4
-    (λ c. search (tests, ← c.mailbox-effect.ensures, c.before.before.register.given.1))  -- returns-5
-    (λ c. search (tests, ← c.effect-on5.ensures, ← c.before.in-half.ensures, c.before.before.before.register2.given.1))  -- returns-6
-    (λ c. search (tests, ← c.ipi-effect.ensures, c.before.enum-told5.given.1))  -- returns-7
-    (λ c. search (tests, ← c.mail-effect.ensures, c.before.enum-told6.given.1))  -- returns-8
+    (λ c. search rules)  -- enum_told-1
+    (λ c κs. search rules)  -- effect_on-requires
+    (λ c. search rules)  -- enum_told-in-Enable
+    (λ c κs. search rules)  -- effect_on-requires-in-Enable
+    (λ c. search rules)  -- enum_told-in-Set
+    (λ c κs. search rules)  -- effect_on-requires-in-Set
+    (λ c. search rules)  -- enum_told-in-Clear
+    (λ c κs. search rules)  -- effect_on-requires-in-Clear
+    (λ c. search rules)  -- enum_known-register
+    (λ c κs. search rules)  -- mailbox_effect-requires
+    (λ c. search rules)  -- enum_known-register-in-MailBoxHigh-1
+    (λ c κs. search rules)  -- in_half-requires
+    (λ c κs. search rules)  -- effect_on-requires-in-MailBoxHigh
+    (λ c. search rules)  -- enum_told-in-IpiSend
+    (λ c κs. search rules)  -- ipi_effect-requires
+    (λ c. search rules)  -- enum_told-in-MailSend
+    (λ c κs. search rules)  -- mail_effect-requires
+    (λ c. search (tests, ← c.effect_on.ensures, c.before.in-Status.is))  -- returns-in-Status
+    (λ c. search (tests, ← c.effect_on-in-Enable.ensures, c.before.in-Enable.is))  -- returns-in-Enable
+    (λ c. search (tests, ← c.effect_on-in-Set.ensures, c.before.in-Set.is))  -- returns-in-Set
+    (λ c. search (tests, ← c.effect_on-in-Clear.ensures, c.before.in-Clear.is))  -- returns-in-Clear
+    (λ c. search (tests, ← c.mailbox_effect.ensures, c.in-MailBox.is))  -- returns-in-MailBox
+    (λ c. search (tests, ← c.effect_on-in-MailBoxHigh.ensures, ← c.before.in_half.ensures, c.in-MailBoxHigh.is))  -- returns-in-MailBoxHigh
+    (λ c. search (tests, ← c.ipi_effect.ensures, c.before.in-IpiSend.is))  -- returns-in-IpiSend
+    (λ c. search (tests, ← c.mail_effect.ensures, c.before.in-MailSend.is))  -- returns-in-MailSend
     )

@@ -13,32 +13,32 @@ unfolding applied_of
 applied_spec =
     tie.close
     (tie.spec
-    (λ c. search rules)  -- enum_told
-    (λ c κs. search rules)  -- merge32-requires
+    (λ c. search rules)  -- enum_told-1
+    (λ c κs. search rules)  -- merge32-new-requires
     (λ c κs. search rules)  -- choose32-requires
     (λ c κs. search rules)  -- choose-requires
-    (λ c. search rules)  -- enum-told-2
-    (λ c κs. search rules)  -- merge32-requires-2
-    (λ c κs. search rules)  -- choose32-requires-2
-    (λ c κs. search rules)  -- choose-requires-2
-    (λ c. search rules)  -- enum-known-cell
-    (λ c κs. search rules)  -- mailbox-requires
-    (λ c κs. search rules)  -- merge-requires
-    (λ c κs. search rules)  -- choose-requires-3
-    (λ c κs. search rules)  -- put-mailbox-requires
-    (λ c κs. search rules)  -- choose-requires-4
-    (λ c κs. search rules)  -- choose-requires-5
+    (λ c. search rules)  -- enum_told-in-Enable
+    (λ c κs. search rules)  -- merge32-new-requires-in-Enable
+    (λ c κs. search rules)  -- choose32-requires-in-Enable
+    (λ c κs. search rules)  -- choose-requires-in-Enable
+    (λ c. search rules)  -- enum_known-cell
+    (λ c κs. search rules)  -- mailbox-old-requires
+    (λ c κs. search rules)  -- merge-new-requires
+    (λ c κs. search rules)  -- choose-requires-in-MailBox
+    (λ c κs. search rules)  -- put_mailbox-all-requires
+    (λ c κs. search rules)  -- choose-requires-in-MailBox-2
+    (λ c κs. search rules)  -- choose-requires-in-MailBox-3
     (λ c.
-    let a = c.before.before.before.before.before.before.args in
-    rw (c.choose.ensures, c.before.choose32.ensures, c.before.before.merge32.ensures, c.before.before.before.enum_told.given.1)
-    (own_applied a.self (search rules) Status _ _ a.own_val (cond_ap (with_status a.self) a.own_val _ _)))  -- returns
+    let a = c.args in
+    rw (c.choose.ensures, c.before.choose32.ensures, c.before.before.merge32-new.ensures, c.in-Status.is)
+    (own_applied a.self (search rules) Status _ _ a.own (cond_ap (with_status a.self) a.own _ _)))  -- returns-in-Status
     (λ c.
-    let a = c.before.before.before.before.before.before.args in
-    rw (c.choose2.ensures, c.before.choose322.ensures, c.before.before.merge322.ensures, c.before.before.before.enum-told2.given.1)
-    (own_applied a.self (search rules) Enable _ _ a.own_val (cond_ap (with_enable a.self) a.own_val _ _)))  -- returns-2
+    let a = c.args in
+    rw (c.choose-in-Enable.ensures, c.before.choose32-in-Enable.ensures, c.before.before.merge32-new-in-Enable.ensures, c.in-Enable.is)
+    (own_applied a.self (search rules) Enable _ _ a.own (cond_ap (with_enable a.self) a.own _ _)))  -- returns-in-Enable
     (λ c.
     let p = c.before.before.before in
-    let a = p.before.before.before.before.before.before.before.args in
-    rw (c.choose5.ensures, c.before.choose4.ensures, c.before.before.put-mailbox.ensures, p.choose3.ensures, p.before.merge.ensures, p.before.before.mailbox.ensures, p.before.before.before.before.cell.given.1)
-    (own_applied a.self (search (rules, p.before.before.before.before.before.before.before.well-formed)) (MailBox _) _ _ a.own_val (own_mail a.self a.own_val _ _)))  -- returns-3
+    let a = c.args in
+    rw (c.choose-in-MailBox-3.ensures, c.before.choose-in-MailBox-2.ensures, c.before.before.put_mailbox-all.ensures, p.choose-in-MailBox.ensures, p.before.merge-new.ensures, p.before.before.mailbox-old.ensures, c.in-MailBox.is)
+    (own_applied a.self (search (rules, c.well_formed)) (MailBox _) _ _ a.own (own_mail a.self a.own _ _)))  -- returns-in-MailBox
     )

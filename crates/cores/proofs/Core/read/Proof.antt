@@ -9,25 +9,25 @@ unfolding read_of
 read_spec =
     tie.close
     (tie.spec
-    (λ c. search rules)  -- enum_told
+    (λ c. search rules)  -- enum_told-1
     (λ c κs. search rules)  -- wide-requires
-    (λ c. search rules)  -- enum-told-2
-    (λ c κs. search rules)  -- wide-requires-2
-    (λ c. search rules)  -- enum-told-3
-    (λ c. search rules)  -- enum-told-4
-    (λ c. search rules)  -- enum-known-register
+    (λ c. search rules)  -- enum_told-in-Enable
+    (λ c κs. search rules)  -- wide-requires-in-Enable
+    (λ c. search rules)  -- enum_told-in-Set
+    (λ c. search rules)  -- enum_told-in-Clear
+    (λ c. search rules)  -- enum_known-register
     (λ c κs. search rules)  -- mailbox-requires
-    (λ c κs. search rules)  -- mailbox-read-requires
-    (λ c. search rules)  -- enum-known-register-2
-    (λ c κs. search rules)  -- mailbox-requires-2
-    (λ c. search rules)  -- enum-told-5
-    (λ c. search rules)  -- enum-told-6
-    (λ c. search (tests, ← c.wide.ensures, c.before.enum_told.given.1))  -- returns
-    (λ c. search (tests, ← c.wide2.ensures, c.before.enum-told2.given.1))  -- returns-2
-    (λ c. search (tests, c.enum-told3.given.1))  -- returns-3
-    (λ c. search (tests, c.enum-told4.given.1))  -- returns-4
-    (λ c. search (tests, ← c.mailbox-read.ensures, ← c.before.mailbox.ensures, c.before.before.before.register.given.1))  -- returns-5
-    (λ c. search (tests, ← c.mailbox2.ensures, c.before.before.register2.given.1))  -- returns-6
-    (λ c. search (tests, c.enum-told5.given.1))  -- returns-7
-    (λ c. search (tests, c.enum-told6.given.1))  -- returns-8
+    (λ c κs. search rules)  -- mailbox_read-requires
+    (λ c. search rules)  -- enum_known-register-in-MailBoxHigh-1
+    (λ c κs. search rules)  -- mailbox-requires-in-MailBoxHigh
+    (λ c. search rules)  -- enum_told-in-IpiSend
+    (λ c. search rules)  -- enum_told-in-MailSend
+    (λ c. search (tests, ← c.wide.ensures, c.before.in-Status.is))  -- returns-in-Status
+    (λ c. search (tests, ← c.wide-in-Enable.ensures, c.before.in-Enable.is))  -- returns-in-Enable
+    (λ c. search (tests, c.in-Set.is))  -- returns-in-Set
+    (λ c. search (tests, c.in-Clear.is))  -- returns-in-Clear
+    (λ c. search (tests, ← c.mailbox_read.ensures, ← c.before.mailbox.ensures, c.in-MailBox.is))  -- returns-in-MailBox
+    (λ c. search (tests, ← c.mailbox-in-MailBoxHigh.ensures, c.in-MailBoxHigh.is))  -- returns-in-MailBoxHigh
+    (λ c. search (tests, c.in-IpiSend.is))  -- returns-in-IpiSend
+    (λ c. search (tests, c.in-MailSend.is))  -- returns-in-MailSend
     )
