@@ -8,7 +8,7 @@ ghost use Rattle.numbers.specs.Printed.{glyph as glyph_of, digits_of, hex_of, de
 const LARGEST: u64 = 0xffff_ffff_ffff_ffff;
 
 // What the text of a number says.
-#[derive(Drop)]
+#[derive(Clone, Copy)]
 pub enum Number {
     Value(u64),
     TooLarge,
