@@ -130,7 +130,7 @@ fn separates(base: u64, after: bool, c: u8) -> bool
 }
 
 // The digits of a number, at the end of the bytes, from the start on.
-#[derive(Drop)]
+#[derive(Clone, Copy)]
 pub struct Digits {
     pub bytes: [u8; 20],
     pub start: usize,
