@@ -14,7 +14,7 @@ use answers::Outcome;
 use bridge_registers::{Cell, Change, Chip, Effect, Register};
 
 // Bit i of each word and byte i of the routes belong to source i.
-#[derive(Drop)]
+#[derive(Clone, Copy)]
 pub struct Bridge {
     pub mask: u64,
     pub msi: u64,

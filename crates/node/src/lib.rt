@@ -11,7 +11,7 @@ ghost use Rattle.node.specs.Moved.{change_moved, write_moved};
 use node_registers::{Cell, Change, Effect, Register};
 
 // Bit i of each word and byte i of the routes belong to source i. Sources 0 and 1 have no input level: bits 0 and 1 of it show nowhere.
-#[derive(Drop)]
+#[derive(Clone, Copy)]
 pub struct Node {
     pub enable: u32,
     pub edge: u32,

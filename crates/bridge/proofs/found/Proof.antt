@@ -6,6 +6,6 @@ pub found_spec : {M : Type 1} → statement M
 found_spec =
     tie.close
     (tie.spec
-    (λ c. search (tests, c.if1.true))  -- returns
-    (λ c. search (tests, c.if1.false))  -- returns-2
+    (λ c. search (tests, c.if-source-eq64.true))  -- returns-then-source-eq64
+    (λ c. search (tests, c.if-source-eq64.false))  -- returns
     )

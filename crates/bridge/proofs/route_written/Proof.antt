@@ -9,14 +9,13 @@ pub route_written_spec : {M : Type 1} → statement M
 route_written_spec =
     tie.close
     (tie.spec
-    (λ c. search rules)  -- slice-aggregate-byte-at
-    (λ c κs. search rules)  -- byte-at-requires
-    (λ c κs. search rules)  -- merge8-requires
-    (λ c. search rules)  -- slice-aggregate-put-at
-    (λ c κs. search rules)  -- put-at-requires
+    (λ c. search rules)  -- slice_bounds-byte_at-end
+    (λ c κs. search rules)  -- byte_at-requires
+    (λ c κs. search rules)  -- merge8-new-requires
+    (λ c. search rules)  -- slice_bounds-put_at-end
+    (λ c κs. search rules)  -- put_at-requires
     (λ c κs. search rules)  -- choose-requires
     (λ c.
-    let p = c.before.before.before.before.before.before
-    in rw (c.choose.ensures, c.before.before.before.put-at.ensures, p.merge8.ensures, moved_low 2 8 _ _ _ (omega arith), merge_low 2 8 _ _ _ (omega arith), p.before.byte_at.ensures)
-    (moved_route p.before.before.before.args.t1 (search rules) _ _ _))  -- returns
+    rw (c.choose.ensures, c.put_at.ensures, c.merge8-new.ensures, moved_low 2 8 _ _ _ (omega arith), merge_low 2 8 _ _ _ (omega arith), c.byte_at.ensures)
+    (moved_route c.args.routes (search rules) _ _ _))  -- returns
     )

@@ -8,7 +8,7 @@ pub latched32_spec : {M : Type 1} → statement M
 latched32_spec =
     tie.close
     (tie.spec
-    (λ c κs. search rules)  -- latched-requires
-    (λ c. search rules)  -- cast-result
-    (λ c. rw c.latched.ensures (latched_low 32 64 _ _ _ _ _ (omega arith)))  -- returns
+    (λ c κs. search rules)  -- latched-wide-requires
+    (λ c. search rules)  -- overflow_cast-result
+    (λ c. rw c.latched-wide.ensures (latched_low 32 64 _ _ _ _ _ (omega arith)))  -- returns
     )

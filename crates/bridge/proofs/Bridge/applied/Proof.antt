@@ -11,16 +11,16 @@ unfolding applied_of cell_of
 applied_spec =
     tie.close
     (tie.spec
-    (λ c. search rules)  -- enum_told
-    (λ c κs. search rules)  -- merge-requires
+    (λ c. search rules)  -- enum_told-1
+    (λ c κs. search rules)  -- merge-new-requires
     (λ c κs. search rules)  -- with-requires
-    (λ c. search rules)  -- enum-told-2
-    (λ c κs. search rules)  -- merge-requires-2
-    (λ c κs. search rules)  -- with-requires-2
-    (λ c. search rules)  -- enum-known-cell
-    (λ c κs. search rules)  -- route-written-requires
-    (λ c κs. search rules)  -- with-requires-3
-    (λ c. rw (c.with.ensures, c.before.merge.ensures, c.before.before.enum_told.given.1, differ_held 64 64 _ _ (omega arith)))  -- returns
-    (λ c. rw (c.with2.ensures, c.before.merge2.ensures, c.before.before.enum-told2.given.1, differ_held 64 64 _ _ (omega arith)))  -- returns-2
-    (λ c. rw (c.with3.ensures, c.before.before.route-written.ensures, c.before.before.before.before.cell.given.1))  -- returns-3
+    (λ c. search rules)  -- enum_told-in-Msi
+    (λ c κs. search rules)  -- merge-new-requires-in-Msi
+    (λ c κs. search rules)  -- with-requires-in-Msi
+    (λ c. search rules)  -- enum_known-cell
+    (λ c κs. search rules)  -- route_written-written-requires
+    (λ c κs. search rules)  -- with-requires-in-Route
+    (λ c. rw (c.with.ensures, c.merge-new.ensures, c.in-Mask.is, differ_held 64 64 _ _ (omega arith)))  -- returns-in-Mask
+    (λ c. rw (c.with-in-Msi.ensures, c.merge-new-in-Msi.ensures, c.in-Msi.is, differ_held 64 64 _ _ (omega arith)))  -- returns-in-Msi
+    (λ c. rw (c.with-in-Route.ensures, c.route_written-written.ensures, c.in-Route.is))  -- returns-in-Route
     )

@@ -9,5 +9,5 @@ before_spec =
     (tie.spec
     (λ c κs. search rules)  -- drive-requires
     (λ c κs. search rules)  -- requests-requires
-    (λ c. search (tests, ← c.requests.ensures, ← c.before.drive.ensures))  -- returns
+    (λ c. search (tests, ← c.requests.ensures, ← c.drive.ensures))  -- returns
     )

@@ -9,9 +9,9 @@ unfolding changed_of
 changed_spec =
     tie.close
     (tie.spec
-    (λ c κs. search rules)  -- moved-requires
+    (λ c κs. search rules)  -- moved-after-requires
     (λ c κs. search rules)  -- before-requires
     (λ c κs. search rules)  -- settled-requires
     (λ c κs. search rules)  -- with-requires
-    (λ c. rw (c.with.ensures, c.before.settled.ensures, c.before.before.before2.ensures, c.before.before.before.before.moved.ensures, settled_cell))  -- returns
+    (λ c. rw (c.with.ensures, c.settled.ensures, c.before-2.ensures, c.moved-after.ensures, settled_cell))  -- returns
     )

@@ -18,11 +18,11 @@ unfolding read_of
 in_service_spec =
     tie.close
     (tie.spec
-    (λ c κs. search rules)  -- pending-requires
-    (λ c. search rules)  -- enum_told
-    (λ c κs. search rules)  -- shown-on-0-requires
-    (λ c. search rules)  -- enum-told-2
-    (λ c κs. search rules)  -- shown-on-1-requires
-    (λ c. rw (c.shown-on-0.ensures, c.before.enum_told.given.1, c.before.before.before.pending.ensures) (shows _ 0))  -- returns
-    (λ c. rw (c.shown-on-1.ensures, c.before.enum-told2.given.1, c.before.before.before.pending.ensures) (shows _ 1))  -- returns-2
+    (λ c κs. search rules)  -- pending-pending-requires
+    (λ c. search rules)  -- enum_told-1
+    (λ c κs. search rules)  -- shown_on_0-requires
+    (λ c. search rules)  -- enum_told-in-Chip1
+    (λ c κs. search rules)  -- shown_on_1-requires
+    (λ c. rw (c.shown_on_0.ensures, c.in-Chip0.is, c.pending-pending.ensures) (shows _ 0))  -- returns-in-Chip0
+    (λ c. rw (c.shown_on_1.ensures, c.in-Chip1.is, c.pending-pending.ensures) (shows _ 1))  -- returns-in-Chip1
     )

@@ -12,5 +12,5 @@ input_spec =
     (λ c κs. search rules)  -- levelled-requires
     (λ c κs. search rules)  -- before-requires
     (λ c κs. search rules)  -- settled-requires
-    (λ c. search (tests, ← c.settled.ensures, ← c.before.before2.ensures, ← c.before.before.levelled.ensures))  -- returns
+    (λ c. search (tests, ← c.settled.ensures, ← c.before-2.ensures, ← c.levelled.ensures))  -- returns
     )

@@ -14,5 +14,5 @@ lines_spec =
     (tie.spec
     (λ c κs. search rules)  -- pending-requires
     (λ c κs. search rules)  -- outputs-requires
-    (λ c. c.outputs.ensures ∙ rw c.before.pending.ensures (word_cong 2 (λ k h. some_cong 64 (λ i l. rw (bit_word 64 _ i l)))))  -- returns
+    (λ c. c.outputs.ensures ∙ rw c.pending.ensures (word_cong 2 (λ k h. some_cong 64 (λ i l. rw (bit_word 64 _ i l)))))  -- returns
     )

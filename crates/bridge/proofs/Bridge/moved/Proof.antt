@@ -11,23 +11,23 @@ unfolding moved_of changed_cell
 moved_spec =
     tie.close
     (tie.spec
-    (λ c. search rules)  -- enum-known-change
-    (λ c κs. search rules)  -- merge-requires
+    (λ c. search rules)  -- enum_known-change
+    (λ c κs. search rules)  -- merge-new-requires
     (λ c κs. search rules)  -- with-requires
-    (λ c. search rules)  -- enum-known-change-2
-    (λ c κs. search rules)  -- merge-requires-2
-    (λ c κs. search rules)  -- with-requires-2
-    (λ c. search rules)  -- enum-known-change-3
-    (λ c κs. search rules)  -- merge-requires-3
-    (λ c κs. search rules)  -- with-requires-3
-    (λ c. search rules)  -- enum-known-change-4
-    (λ c κs. search rules)  -- merge-requires-4
-    (λ c κs. search rules)  -- with-requires-4
-    (λ c. search rules)  -- enum_told
-    (λ c κs. search rules)  -- with-requires-5
-    (λ c. rw (c.with.ensures, c.before.merge.ensures, c.before.before.before.change.given.1, differ_held 64 64 _ _ (omega arith)))  -- returns
-    (λ c. rw (c.with2.ensures, c.before.merge2.ensures, c.before.before.before.change2.given.1, differ_held 64 64 _ _ (omega arith)))  -- returns-2
-    (λ c. rw (c.with3.ensures, c.before.merge3.ensures, c.before.before.before.change3.given.1, differ_held 64 64 _ _ (omega arith)))  -- returns-3
-    (λ c. rw (c.with4.ensures, c.before.merge4.ensures, c.before.before.before.change4.given.1, differ_held 64 64 _ _ (omega arith)))  -- returns-4
-    (λ c. rw (c.with5.ensures, c.before.enum_told.given.1, differ_same 64 0))  -- returns-5
+    (λ c. search rules)  -- enum_known-change-in-Soft-1
+    (λ c κs. search rules)  -- merge-new-requires-in-Soft
+    (λ c κs. search rules)  -- with-requires-in-Soft
+    (λ c. search rules)  -- enum_known-change-in-Auto-1
+    (λ c κs. search rules)  -- merge-new-requires-in-Auto
+    (λ c κs. search rules)  -- with-requires-in-Auto
+    (λ c. search rules)  -- enum_known-change-in-Latch-1
+    (λ c κs. search rules)  -- merge-new-requires-in-Latch
+    (λ c κs. search rules)  -- with-requires-in-Latch
+    (λ c. search rules)  -- enum_told-1
+    (λ c κs. search rules)  -- with-requires-in-Nothing
+    (λ c. rw (c.with.ensures, c.merge-new.ensures, c.in-Edge.is, differ_held 64 64 _ _ (omega arith)))  -- returns-in-Edge
+    (λ c. rw (c.with-in-Soft.ensures, c.merge-new-in-Soft.ensures, c.in-Soft.is, differ_held 64 64 _ _ (omega arith)))  -- returns-in-Soft
+    (λ c. rw (c.with-in-Auto.ensures, c.merge-new-in-Auto.ensures, c.in-Auto.is, differ_held 64 64 _ _ (omega arith)))  -- returns-in-Auto
+    (λ c. rw (c.with-in-Latch.ensures, c.merge-new-in-Latch.ensures, c.in-Latch.is, differ_held 64 64 _ _ (omega arith)))  -- returns-in-Latch
+    (λ c. rw (c.with-in-Nothing.ensures, c.in-Nothing.is, differ_same 64 0))  -- returns-in-Nothing
     )

@@ -12,5 +12,5 @@ pending_spec =
     (tie.spec
     (λ c κs. search rules)  -- requests-requires
     (λ c κs. search rules)  -- unmasked-requires
-    (λ c. c.unmasked.ensures ∙ simp c.before.requests.ensures (word_cong 64 (λ i h. rw (bit_word 64 _ i h))))  -- returns
+    (λ c. c.unmasked.ensures ∙ simp c.requests.ensures (word_cong 64 (λ i h. rw (bit_word 64 _ i h))))  -- returns
     )

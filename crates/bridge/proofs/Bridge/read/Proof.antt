@@ -9,30 +9,30 @@ unfolding read_of
 read_spec =
     tie.close
     (tie.spec
-    (λ c. search rules)  -- enum_told
-    (λ c. search rules)  -- enum-told-2
-    (λ c. search rules)  -- enum-told-3
-    (λ c. search rules)  -- enum-told-4
-    (λ c. search rules)  -- enum-told-5
-    (λ c. search rules)  -- enum-told-6
-    (λ c. search rules)  -- enum-told-7
-    (λ c. search rules)  -- enum-told-8
-    (λ c κs. search rules)  -- in-service-requires
-    (λ c. search rules)  -- enum-told-9
-    (λ c κs. search rules)  -- in-service-requires-2
-    (λ c. search rules)  -- enum-told-10
+    (λ c. search rules)  -- enum_told-1
+    (λ c. search rules)  -- enum_told-in-MsiEn
+    (λ c. search rules)  -- enum_told-in-IntEdge
+    (λ c. search rules)  -- enum_told-in-SoftInt
+    (λ c. search rules)  -- enum_told-in-AutoCtrl0
+    (λ c. search rules)  -- enum_told-in-AutoCtrl1
+    (λ c. search rules)  -- enum_told-in-IntClr
+    (λ c. search rules)  -- enum_told-in-IntIsrChip0
+    (λ c κs. search rules)  -- in_service-requires
+    (λ c. search rules)  -- enum_told-in-IntIsrChip1
+    (λ c κs. search rules)  -- in_service-requires-in-IntIsrChip1
+    (λ c. search rules)  -- enum_told-in-IntIrr
     (λ c κs. search rules)  -- requests-requires
-    (λ c. search rules)  -- enum-known-register
-    (λ c κs. search rules)  -- route-read-requires
-    (λ c. search (tests, c.enum_told.given.1))  -- returns
-    (λ c. search (tests, c.enum-told2.given.1))  -- returns-2
-    (λ c. search (tests, c.enum-told3.given.1))  -- returns-3
-    (λ c. search (tests, c.enum-told4.given.1))  -- returns-4
-    (λ c. search (tests, c.enum-told5.given.1))  -- returns-5
-    (λ c. search (tests, c.enum-told6.given.1))  -- returns-6
-    (λ c. search (tests, c.enum-told7.given.1))  -- returns-7
-    (λ c. search (tests, ← c.in-service.ensures, c.before.enum-told8.given.1))  -- returns-8
-    (λ c. search (tests, ← c.in-service2.ensures, c.before.enum-told9.given.1))  -- returns-9
-    (λ c. search (tests, ← c.requests.ensures, c.before.enum-told10.given.1))  -- returns-10
-    (λ c. search (tests, ← c.route-read.ensures, c.before.before.register.given.1))  -- returns-11
+    (λ c. search rules)  -- enum_known-register
+    (λ c κs. search rules)  -- route_read-requires
+    (λ c. search (tests, c.in-IntMask.is))  -- returns-in-IntMask
+    (λ c. search (tests, c.in-MsiEn.is))  -- returns-in-MsiEn
+    (λ c. search (tests, c.in-IntEdge.is))  -- returns-in-IntEdge
+    (λ c. search (tests, c.in-SoftInt.is))  -- returns-in-SoftInt
+    (λ c. search (tests, c.in-AutoCtrl0.is))  -- returns-in-AutoCtrl0
+    (λ c. search (tests, c.in-AutoCtrl1.is))  -- returns-in-AutoCtrl1
+    (λ c. search (tests, c.in-IntClr.is))  -- returns-in-IntClr
+    (λ c. search (tests, ← c.in_service.ensures, c.in-IntIsrChip0.is))  -- returns-in-IntIsrChip0
+    (λ c. search (tests, ← c.in_service-in-IntIsrChip1.ensures, c.in-IntIsrChip1.is))  -- returns-in-IntIsrChip1
+    (λ c. search (tests, ← c.requests.ensures, c.in-IntIrr.is))  -- returns-in-IntIrr
+    (λ c. search (tests, ← c.route_read.ensures, c.in-RouteEntry.is))  -- returns-in-RouteEntry
     )

@@ -12,5 +12,5 @@ requests_spec =
     (tie.spec
     (λ c κs. search rules)  -- drive-requires
     (λ c κs. search rules)  -- select-requires
-    (λ c. c.select.ensures ∙ simp c.before.drive.ensures (word_cong 64 (λ i h. rw (bit_word 64 _ i h))))  -- returns
+    (λ c. c.select.ensures ∙ simp c.drive.ensures (word_cong 64 (λ i h. rw (bit_word 64 _ i h))))  -- returns
     )

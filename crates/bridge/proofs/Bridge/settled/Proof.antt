@@ -13,5 +13,5 @@ settled_spec =
     (λ c κs. search rules)  -- latched-requires
     (λ c κs. search rules)  -- requests-requires
     (λ c κs. search rules)  -- turned-requires
-    (λ c. search (tests, ← c.turned.ensures, ← c.before.requests.ensures, ← c.before.before.latched.ensures, ← c.before.before.before.drive.ensures))  -- returns
+    (λ c. search (tests, ← c.turned.ensures, ← c.requests.ensures, ← c.latched.ensures, ← c.drive.ensures))  -- returns
     )

@@ -9,8 +9,8 @@ unfolding which_of
 which_spec =
     tie.close
     (tie.spec
-    (λ c κs. search rules)  -- in-service-requires
+    (λ c κs. search rules)  -- in_service-requires
     (λ c κs. search rules)  -- lowest-requires
     (λ c κs. search rules)  -- found-requires
-    (λ c. rw (c.found.ensures, c.before.lowest.ensures, c.before.before.in-service.ensures, some_first 64 _))  -- returns
+    (λ c. rw (c.found.ensures, c.lowest.ensures, c.in_service.ensures, some_first 64 _))  -- returns
     )

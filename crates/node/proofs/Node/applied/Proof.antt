@@ -11,13 +11,13 @@ unfolding applied_of cell_of
 applied_spec =
     tie.close
     (tie.spec
-    (λ c. search rules)  -- enum_told
-    (λ c κs. search rules)  -- merge32-requires
-    (λ c κs. search rules)  -- latch-disabled-requires
+    (λ c. search rules)  -- enum_told-1
+    (λ c κs. search rules)  -- merge32-new-requires
+    (λ c κs. search rules)  -- latch_disabled-requires
     (λ c κs. search rules)  -- with-requires
-    (λ c. search rules)  -- enum-known-cell
-    (λ c κs. search rules)  -- written-requires
-    (λ c κs. search rules)  -- with-requires-2
-    (λ c. rw (c.with.ensures, c.before.latch-disabled.ensures, c.before.before.merge32.ensures, c.before.before.before.enum_told.given.1, differ_held 32 64 _ _ (omega arith)))  -- returns
-    (λ c. rw (c.with2.ensures, c.before.before.written.ensures, c.before.before.before.before.cell.given.1))  -- returns-2
+    (λ c. search rules)  -- enum_known-cell
+    (λ c κs. search rules)  -- written-written-requires
+    (λ c κs. search rules)  -- with-requires-in-Entry
+    (λ c. rw (c.with.ensures, c.latch_disabled.ensures, c.merge32-new.ensures, c.in-Inten.is, differ_held 32 64 _ _ (omega arith)))  -- returns-in-Inten
+    (λ c. rw (c.with-in-Entry.ensures, c.written-written.ensures, c.in-Entry.is))  -- returns-in-Entry
     )

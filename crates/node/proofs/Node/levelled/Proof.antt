@@ -10,8 +10,8 @@ unfolding levelled_of
 levelled_spec =
     tie.close
     (tie.spec
-    (λ c. search rules)  -- cast-put
+    (λ c. search rules)  -- overflow_cast-self
     (λ c κs. search rules)  -- put-requires
-    (λ c. search rules)  -- cast-self
+    (λ c. search rules)  -- overflow_cast-self-2
     (λ c. rw (c.put.ensures, put_low 32 64 _ _ _ (omega arith)))  -- returns
     )

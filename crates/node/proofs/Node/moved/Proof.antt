@@ -11,11 +11,11 @@ unfolding moved_of changed_cell
 moved_spec =
     tie.close
     (tie.spec
-    (λ c. search rules)  -- enum-known-change
-    (λ c κs. search rules)  -- merge32-requires
+    (λ c. search rules)  -- enum_known-change
+    (λ c κs. search rules)  -- merge32-new-requires
     (λ c κs. search rules)  -- with-requires
-    (λ c. search rules)  -- enum_told
-    (λ c κs. search rules)  -- with-requires-2
-    (λ c. rw (c.with.ensures, c.before.merge32.ensures, c.before.before.before.change.given.1, differ_held 32 64 _ _ (omega arith)))  -- returns
-    (λ c. rw (c.with2.ensures, c.before.enum_told.given.1, differ_same 64 0))  -- returns-2
+    (λ c. search rules)  -- enum_told-1
+    (λ c κs. search rules)  -- with-requires-in-Nothing
+    (λ c. rw (c.with.ensures, c.merge32-new.ensures, c.in-Edge.is, differ_held 32 64 _ _ (omega arith)))  -- returns-in-Edge
+    (λ c. rw (c.with-in-Nothing.ensures, c.in-Nothing.is, differ_same 64 0))  -- returns-in-Nothing
     )

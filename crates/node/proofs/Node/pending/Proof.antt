@@ -12,5 +12,5 @@ pending_spec =
     (tie.spec
     (λ c κs. search rules)  -- requests-requires
     (λ c κs. search rules)  -- both-requires
-    (λ c. c.both.ensures ∙ simp c.before.requests.ensures (word_cong 32 (λ i h. rw (bit_word 32 _ i h))))  -- returns
+    (λ c. c.both.ensures ∙ simp c.requests.ensures (word_cong 32 (λ i h. rw (bit_word 32 _ i h))))  -- returns
     )

@@ -15,5 +15,5 @@ pins_spec =
     (tie.spec
     (λ c κs. search rules)  -- pending-requires
     (λ c κs. search rules)  -- lines-requires
-    (λ c. c.lines.ensures ∙ simp c.before.pending.ensures (word_cong 8 (λ j h. some_cong 32 (λ i l. rw (bit_word 32 _ i l, ← and_assoc)))))  -- returns
+    (λ c. c.lines.ensures ∙ simp c.pending.ensures (word_cong 8 (λ j h. some_cong 32 (λ i l. rw (bit_word 32 _ i l, ← and_assoc)))))  -- returns
     )

@@ -9,27 +9,27 @@ unfolding read_of
 read_spec =
     tie.close
     (tie.spec
-    (λ c. search rules)  -- enum_told
+    (λ c. search rules)  -- enum_told-1
     (λ c κs. search rules)  -- requests-requires
     (λ c κs. search rules)  -- wide-requires
-    (λ c. search rules)  -- enum-told-2
-    (λ c κs. search rules)  -- wide-requires-2
-    (λ c. search rules)  -- enum-told-3
-    (λ c κs. search rules)  -- wide-requires-3
-    (λ c. search rules)  -- enum-told-4
-    (λ c κs. search rules)  -- wide-requires-4
-    (λ c. search rules)  -- enum-told-5
-    (λ c κs. search rules)  -- wide-requires-5
-    (λ c. search rules)  -- enum-known-register
+    (λ c. search rules)  -- enum_told-in-Inten
+    (λ c κs. search rules)  -- wide-requires-in-Inten
+    (λ c. search rules)  -- enum_told-in-Intenset
+    (λ c κs. search rules)  -- wide-requires-in-Intenset
+    (λ c. search rules)  -- enum_told-in-Intenclr
+    (λ c κs. search rules)  -- wide-requires-in-Intenclr
+    (λ c. search rules)  -- enum_told-in-Intedge
+    (λ c κs. search rules)  -- wide-requires-in-Intedge
+    (λ c. search rules)  -- enum_known-register
     (λ c κs. search rules)  -- status-requires
-    (λ c κs. search rules)  -- wide-requires-6
-    (λ c. search rules)  -- enum-known-register-2
+    (λ c κs. search rules)  -- wide-requires-in-CoreIntisr
+    (λ c. search rules)  -- enum_known-register-in-Entry-1
     (λ c κs. search rules)  -- read-requires
-    (λ c. search (tests, ← c.wide.ensures, ← c.before.requests.ensures, c.before.before.enum_told.given.1))  -- returns
-    (λ c. search (tests, ← c.wide2.ensures, c.before.enum-told2.given.1))  -- returns-2
-    (λ c. search (tests, ← c.wide3.ensures, c.before.enum-told3.given.1))  -- returns-3
-    (λ c. search (tests, ← c.wide4.ensures, c.before.enum-told4.given.1))  -- returns-4
-    (λ c. search (tests, ← c.wide5.ensures, c.before.enum-told5.given.1))  -- returns-5
-    (λ c. search (tests, ← c.wide6.ensures, ← c.before.status.ensures, c.before.before.before.register.given.1))  -- returns-6
-    (λ c. search (tests, ← c.read.ensures, c.before.before.register2.given.1))  -- returns-7
+    (λ c. search (tests, ← c.wide.ensures, ← c.requests.ensures, c.in-Intisr.is))  -- returns-in-Intisr
+    (λ c. search (tests, ← c.wide-in-Inten.ensures, c.in-Inten.is))  -- returns-in-Inten
+    (λ c. search (tests, ← c.wide-in-Intenset.ensures, c.in-Intenset.is))  -- returns-in-Intenset
+    (λ c. search (tests, ← c.wide-in-Intenclr.ensures, c.in-Intenclr.is))  -- returns-in-Intenclr
+    (λ c. search (tests, ← c.wide-in-Intedge.ensures, c.in-Intedge.is))  -- returns-in-Intedge
+    (λ c. search (tests, ← c.wide-in-CoreIntisr.ensures, ← c.status.ensures, c.in-CoreIntisr.is))  -- returns-in-CoreIntisr
+    (λ c. search (tests, ← c.read.ensures, c.in-Entry.is))  -- returns-in-Entry
     )

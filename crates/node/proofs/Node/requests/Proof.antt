@@ -12,5 +12,5 @@ requests_spec =
     (tie.spec
     (λ c κs. search rules)  -- drive-requires
     (λ c κs. search rules)  -- select32-requires
-    (λ c. c.select32.ensures ∙ simp c.before.drive.ensures (word_cong 32 (λ i h. rw (bit_word 32 _ i h))))  -- returns
+    (λ c. c.select32.ensures ∙ simp c.drive.ensures (word_cong 32 (λ i h. rw (bit_word 32 _ i h))))  -- returns
     )

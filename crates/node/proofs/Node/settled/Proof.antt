@@ -11,5 +11,5 @@ settled_spec =
     (tie.spec
     (λ c κs. search rules)  -- drive-requires
     (λ c κs. search rules)  -- latched32-requires
-    (λ c. search (tests, ← c.latched32.ensures, ← c.before.drive.ensures))  -- returns
+    (λ c. search (tests, ← c.latched32.ensures, ← c.drive.ensures))  -- returns
     )

@@ -13,5 +13,5 @@ status_spec =
     (tie.spec
     (λ c κs. search rules)  -- pending-requires
     (λ c κs. search rules)  -- routed-requires
-    (λ c. c.routed.ensures ∙ simp c.before.pending.ensures (word_cong 32 (λ i h. rw (bit_word 32 _ i h))))  -- returns
+    (λ c. c.routed.ensures ∙ simp c.pending.ensures (word_cong 32 (λ i h. rw (bit_word 32 _ i h))))  -- returns
     )
