@@ -6,7 +6,7 @@ ghost use Rattle.access.specs.Refusal.{first_of, refusal_number};
 ghost use Rattle.access.specs.Access.{access_refusals, fitting, listed, permitted};
 
 // Why a step is refused, in the order of the numbers: 1 to 9.
-#[derive(Drop)]
+#[derive(Clone, Copy)]
 pub enum Refusal {
     Core,
     Register,
@@ -19,20 +19,20 @@ pub enum Refusal {
     NoneInService,
 }
 
-#[derive(Drop)]
+#[derive(Clone, Copy)]
 pub enum Verdict {
     Accepted,
     Refused(Refusal),
 }
 
-#[derive(Drop)]
+#[derive(Clone, Copy)]
 pub enum Rights {
     Read,
     Write,
     Both,
 }
 
-#[derive(Drop)]
+#[derive(Clone, Copy)]
 pub enum Widths {
     One,
     Four,
@@ -41,7 +41,7 @@ pub enum Widths {
 }
 
 // How a register may be accessed.
-#[derive(Drop)]
+#[derive(Clone, Copy)]
 pub struct Access {
     pub rights: Rights,
     pub widths: Widths,

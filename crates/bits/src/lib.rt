@@ -21,28 +21,28 @@ pub fn select32(mask: u32, word: u32, other: u32) -> u32
 }
 
 // What a write makes of a word: the new word, and the bits in which it differs from the old one (request Q-8).
-#[derive(Drop)]
+#[derive(Clone, Copy)]
 pub struct Merged {
     pub word: u64,
     pub moved: u64,
 }
 
 // The same of a word of 32 bits.
-#[derive(Drop)]
+#[derive(Clone, Copy)]
 pub struct Merged32 {
     pub word: u32,
     pub moved: u64,
 }
 
 // The same of a byte.
-#[derive(Drop)]
+#[derive(Clone, Copy)]
 pub struct Merged8 {
     pub word: u8,
     pub moved: u64,
 }
 
 // The same of one bit.
-#[derive(Drop)]
+#[derive(Clone, Copy)]
 pub struct Merged1 {
     pub word: bool,
     pub moved: bool,

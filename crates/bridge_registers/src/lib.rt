@@ -7,7 +7,7 @@ ghost use Rattle.bridge_registers.specs.Registers.{distributed, row_of, sized, w
 use access::Rights;
 
 // The registers of table 8-2, in the order of 01.
-#[derive(Drop)]
+#[derive(Clone, Copy)]
 pub enum Register {
     IntMask,
     MsiEn,
@@ -23,14 +23,14 @@ pub enum Register {
 }
 
 // The two words of the sources in service, INTISR_CHIP0 and INTISR_CHIP1, of which a search asks for one.
-#[derive(Drop)]
+#[derive(Clone, Copy)]
 pub enum Chip {
     Chip0,
     Chip1,
 }
 
 // What a written value may be.
-#[derive(Drop)]
+#[derive(Clone, Copy)]
 pub enum Holds {
     Word,
     Zero,
@@ -38,7 +38,7 @@ pub enum Holds {
 }
 
 // A register's row: its source number (0 but for ROUTE_ENTRY), its rights, and what a write may hold.
-#[derive(Drop)]
+#[derive(Clone, Copy)]
 pub struct Row {
     pub source: u64,
     pub rights: Rights,
@@ -46,7 +46,7 @@ pub struct Row {
 }
 
 // A cell that a plain write reaches.
-#[derive(Drop)]
+#[derive(Clone, Copy)]
 pub enum Cell {
     Mask,
     Msi,
@@ -54,7 +54,7 @@ pub enum Cell {
 }
 
 // The bits of the cell that are in mask take the values in bits.
-#[derive(Drop)]
+#[derive(Clone, Copy)]
 pub struct Effect {
     pub cell: Cell,
     pub mask: u64,
@@ -62,7 +62,7 @@ pub struct Effect {
 }
 
 // A change that is not plain: bits of the modes, of the soft bits, of the turn modes (AUTO_CTRL0) or of the latches take values, or none.
-#[derive(Drop)]
+#[derive(Clone, Copy)]
 pub enum Change {
     Edge { mask: u64, bits: u64 },
     Soft { mask: u64, bits: u64 },
@@ -72,7 +72,7 @@ pub enum Change {
 }
 
 // What an accepted write does.
-#[derive(Drop)]
+#[derive(Clone, Copy)]
 pub enum Written {
     Plain(Effect),
     Changed(Change),

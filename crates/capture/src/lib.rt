@@ -18,7 +18,7 @@ use capture_tokens::token;
 use device::{Device, Stepped};
 
 // The outcome, the place of the token that shows a refusal, the used length and the device.
-#[derive(Drop)]
+#[derive(Clone, Copy)]
 pub struct Replayed {
     pub outcome: Outcome,
     pub place: usize,
@@ -27,7 +27,7 @@ pub struct Replayed {
 }
 
 // Where a walk has come to.
-#[derive(Drop)]
+#[derive(Clone, Copy)]
 pub struct Walked {
     pub state: State,
     pub now: Stepped,

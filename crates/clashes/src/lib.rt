@@ -11,7 +11,7 @@ ghost use Rattle.clashes.specs.Private.{spot_in, spot_of};
 use reorder::{Cell, Given};
 use steps::Step;
 
-#[derive(Drop)]
+#[derive(Clone, Copy)]
 pub enum Clash {
     Free,
     On { cell: Cell, bits: u64 },
@@ -19,7 +19,7 @@ pub enum Clash {
 
 // ---- where a cell stands and its width, a line for each as in crates/reorder/specs/Cells.antt
 
-#[derive(Drop)]
+#[derive(Clone, Copy)]
 struct Spot {
     block: u64,
     number: u64,

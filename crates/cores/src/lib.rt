@@ -7,7 +7,7 @@ ghost use Rattle.cores.specs.Moved.{with_moved};
 
 use ipi_registers::{Cell, Effect, Register};
 
-#[derive(Drop)]
+#[derive(Clone, Copy)]
 pub struct Core {
     pub status: u32,
     pub enable: u32,
@@ -15,7 +15,7 @@ pub struct Core {
 }
 
 // A core after a write, and the bits that the write moved (request Q-8).
-#[derive(Drop)]
+#[derive(Clone, Copy)]
 pub struct Applied {
     pub core: Core,
     pub moved: u64,

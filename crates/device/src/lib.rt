@@ -11,7 +11,7 @@ use cores::Core;
 use steps::{Plan, Step};
 use tree::{Act, Tree};
 
-#[derive(Drop)]
+#[derive(Clone, Copy)]
 pub struct Device {
     pub core0: Core,
     pub core1: Core,
@@ -19,14 +19,14 @@ pub struct Device {
     pub second_open: bool,
 }
 
-#[derive(Drop)]
+#[derive(Clone, Copy)]
 pub struct Stepped {
     pub answer: Answer,
     pub device: Device,
 }
 
 // A device after a step, and the bits that the step moved (request Q-8).
-#[derive(Drop)]
+#[derive(Clone, Copy)]
 struct Next {
     device: Device,
     moved: u64,
@@ -34,7 +34,7 @@ struct Next {
 
 // What a plan does to the device, by the part that it reaches. It serves speed: what follows from a change of the tree has one place in
 // the code, and is not looked at in the other cases.
-#[derive(Drop)]
+#[derive(Clone, Copy)]
 enum Class {
     Keep,
     Cores {

@@ -8,7 +8,7 @@ ghost use Rattle.ipi_registers.specs.Effect.{effect_of, half_of, in_half, ipi_se
 use access::{Access, Rights, Widths};
 
 // A register that an offset names. The low half of a mailbox is the mailbox at width 4.
-#[derive(Drop)]
+#[derive(Clone, Copy)]
 pub enum Register {
     Status,
     Enable,
@@ -20,20 +20,20 @@ pub enum Register {
     MailSend,
 }
 
-#[derive(Drop)]
+#[derive(Clone, Copy)]
 pub struct Entry {
     pub register: Register,
     pub access: Access,
 }
 
-#[derive(Drop)]
+#[derive(Clone, Copy)]
 pub enum Found {
     Nothing,
     At(Entry),
 }
 
 // A cell that a write reaches.
-#[derive(Drop)]
+#[derive(Clone, Copy)]
 pub enum Cell {
     Status,
     Enable,
@@ -41,7 +41,7 @@ pub enum Cell {
 }
 
 // The bits of the cell that are in mask take the values in bits.
-#[derive(Drop)]
+#[derive(Clone, Copy)]
 pub struct Effect {
     pub cell: Cell,
     pub mask: u64,

@@ -8,7 +8,7 @@ ghost use Rattle.node_registers.specs.Effect.{written_of};
 use access::{Access, Rights, Widths};
 
 // The registers of tables 8-5 and 8-7, in the manual's order: the status of a core and the route of a source by its number.
-#[derive(Drop)]
+#[derive(Clone, Copy)]
 pub enum Register {
     Intisr,
     Inten,
@@ -19,21 +19,21 @@ pub enum Register {
     Entry(u64),
 }
 
-#[derive(Drop)]
+#[derive(Clone, Copy)]
 pub enum Found {
     Nothing,
     At { register: Register, access: Access },
 }
 
 // A cell that a plain write reaches.
-#[derive(Drop)]
+#[derive(Clone, Copy)]
 pub enum Cell {
     Inten,
     Entry(u64),
 }
 
 // The bits of the cell that are in mask take the values in bits.
-#[derive(Drop)]
+#[derive(Clone, Copy)]
 pub struct Effect {
     pub cell: Cell,
     pub mask: u64,
@@ -41,14 +41,14 @@ pub struct Effect {
 }
 
 // A change that is not plain: bits of the edge choices take values, or none.
-#[derive(Drop)]
+#[derive(Clone, Copy)]
 pub enum Change {
     Edge { mask: u64, bits: u64 },
     Nothing,
 }
 
 // What an accepted write does.
-#[derive(Drop)]
+#[derive(Clone, Copy)]
 pub enum Written {
     Plain(Effect),
     Changed(Change),

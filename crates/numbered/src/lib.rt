@@ -34,14 +34,14 @@ pub const WHICH: u64 = 10;
 pub const ROUTE_ENTRY: u64 = 10;
 
 // A register of the bridge.
-#[derive(Drop)]
+#[derive(Clone, Copy)]
 pub enum Named {
     Unknown,
     Register(Register),
 }
 
 // A step.
-#[derive(Drop)]
+#[derive(Clone, Copy)]
 pub enum Numbered {
     Unknown,
     Step(Step),

@@ -8,7 +8,7 @@ ghost use Rattle.numbers.specs.Printed.{glyph as glyph_of, digits_of, hex_of, de
 const LARGEST: u64 = 0xffff_ffff_ffff_ffff;
 
 // What the text of a number says.
-#[derive(Drop)]
+#[derive(Clone, Copy)]
 pub enum Number {
     Value(u64),
     TooLarge,
@@ -130,7 +130,7 @@ fn separates(base: u64, after: bool, c: u8) -> bool
 }
 
 // The digits of a number, at the end of the bytes, from the start on.
-#[derive(Drop)]
+#[derive(Clone, Copy)]
 pub struct Digits {
     pub bytes: [u8; 20],
     pub start: usize,

@@ -16,7 +16,7 @@ use steps::{Plan, Step};
 use tree::{Tree, Write};
 
 // A cell that plain writes reach.
-#[derive(Drop)]
+#[derive(Clone, Copy)]
 pub enum Cell {
     Core0(ipi_registers::Cell),
     Core1(ipi_registers::Cell),
@@ -26,7 +26,7 @@ pub enum Cell {
 }
 
 // What a step gives, if the order rule covers it: the bits of the cell that are in mask take the values in bits.
-#[derive(Drop)]
+#[derive(Clone, Copy)]
 pub enum Given {
     NotListed,
     Nothing,

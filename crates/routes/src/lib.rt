@@ -21,7 +21,7 @@ pub fn read(routes: [u8; 32], source: u64) -> u64
 }
 
 // Routes after a write to one of them, and the bits of that one that the write moved (request Q-8).
-#[derive(Drop)]
+#[derive(Clone, Copy)]
 pub struct Applied {
     pub routes: [u8; 32],
     pub moved: u64,

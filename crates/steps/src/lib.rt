@@ -14,7 +14,7 @@ use tree::{Change, Read, Write};
 use windows::{Address, Place};
 
 // One case for each kind of step.
-#[derive(Drop)]
+#[derive(Clone, Copy)]
 pub enum Step {
     BusRead {
         address: u64,
@@ -63,7 +63,7 @@ pub enum Step {
 // What a step does, by the class of cells and by what the order rule says of it: of the accepted steps, it is about those that write
 // a core or the tree. Where a case holds a small enum or a flag and a number, the small one stands first: so the cases lie alike in
 // memory, and a plan stays in registers where they meet.
-#[derive(Drop)]
+#[derive(Clone, Copy)]
 pub enum Plan {
     Refuse(Refusal),
     ReadCore {

@@ -8,7 +8,7 @@ use crate::Step;
 use bridge_registers::Chip;
 use windows::{Address, Window};
 
-#[derive(Drop)]
+#[derive(Clone, Copy)]
 pub(crate) enum Request {
     Access {
         address: Address,

@@ -8,7 +8,7 @@ ghost use Rattle.text.specs.Tokens.{past, token_by, token_of, same_of, shown as 
 ghost use Rattle.text.specs.Buffers.{Put};
 
 // A part of a text, from its start to before its end.
-#[derive(Drop)]
+#[derive(Clone, Copy)]
 pub struct Span {
     pub start: usize,
     pub end: usize,

@@ -14,7 +14,7 @@ use bridge::Bridge;
 use bridge_registers::Chip;
 use node::Node;
 
-#[derive(Drop)]
+#[derive(Clone, Copy)]
 pub struct Tree {
     pub bridge: Bridge,
     pub gate: bool,
@@ -22,7 +22,7 @@ pub struct Tree {
 }
 
 // What is read: a register of the bridge or of the node, the gate in its word or in the high half of that, or which source of the bridge it is.
-#[derive(Drop)]
+#[derive(Clone, Copy)]
 pub enum Read {
     Bridge(bridge_registers::Register),
     Gate { high: bool, width: u64 },
@@ -31,7 +31,7 @@ pub enum Read {
 }
 
 // What a plain write does: bits of a cell of the bridge or of the node take values, or the gate does, which is a cell of one bit.
-#[derive(Drop)]
+#[derive(Clone, Copy)]
 pub enum Write {
     Bridge(bridge_registers::Effect),
     Gate { mask: bool, bit: bool },
@@ -39,7 +39,7 @@ pub enum Write {
 }
 
 // What any other accepted step does.
-#[derive(Drop)]
+#[derive(Clone, Copy)]
 pub enum Change {
     Bridge(bridge_registers::Change),
     Input { level: bool, source: u64 },
@@ -48,21 +48,21 @@ pub enum Change {
 }
 
 // What a step does to the tree.
-#[derive(Drop)]
+#[derive(Clone, Copy)]
 pub enum Act {
     Write(Write),
     Change(Change),
 }
 
 // A tree after an act, and the bits that the act moved (request Q-8).
-#[derive(Drop)]
+#[derive(Clone, Copy)]
 pub struct Acted {
     pub tree: Tree,
     pub moved: u64,
 }
 
 // What settling needs of the tree before an act.
-#[derive(Drop)]
+#[derive(Clone, Copy)]
 pub struct Before {
     pub node: node::Before,
 }

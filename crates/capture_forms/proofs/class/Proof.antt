@@ -18,8 +18,8 @@ unfolding class_of
 class_spec =
     tie.close
     (tie.spec
-    (λ c. above c.before.args.c c.if1.true (search rules))  -- returns
+    (λ c. above c.before.args.c c.if-c-gt127.true (search rules))  -- returns-then-c-gt127
     (λ c. search rules)  -- array-read-result
-    (λ c. let h : c.before.args.c < 128 = omega arith in rw (entry (λ k. 64 + class_of k), h) (omega arith))  -- sub-result
-    (λ c. let h : c.before.args.c < 128 = omega arith in rw (entry (λ k. 64 + class_of k), h) (omega arith))  -- returns-2
+    (λ c. let h : c.before.args.c < 128 = omega arith in rw (entry (λ k. 64 + class_of k), h) (omega arith))  -- overflow_sub-result
+    (λ c. let h : c.before.args.c < 128 = omega arith in rw (entry (λ k. 64 + class_of k), h) (omega arith))  -- returns
     )

@@ -20,8 +20,8 @@ unfolding token_of blank bit
 token_spec =
     tie.close
     (tie.spec
-    (λ c κs. tt)  -- token-by-requires
+    (λ c κs. tt)  -- token_by-requires
     (λ c.
     let a = c.before.before.args in
-    c.token-by.ensures ∙ ap₂ (λ f g. token_by f g a.s.now a.from) (set_is _ blank no_blank refl refl) (set_is _ blank no_blank refl refl))  -- returns
+    c.token_by.ensures ∙ ap₂ (λ f g. token_by f g a.s.now a.from) (set_is _ blank no_blank refl refl) (set_is _ blank no_blank refl refl))  -- returns
     )

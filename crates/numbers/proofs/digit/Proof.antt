@@ -38,8 +38,8 @@ digit_spec =
     (λ c. search (tests, rules))  -- returns-in-48-to-57
     (λ c. search (tests, rules))  -- returns-in-65-to-70
     (λ c. search (tests, rules))  -- returns-in-97-to-102
-    (λ c. none c.before.args.c (inl (omega arith)) (inl (omega arith)) (inl (omega arith)))  -- returns-in_default
-    (λ c. none c.before.before.before.args.c (inr (omega arith)) (inl (omega arith)) (inl (omega arith)))  -- returns-in_default-2
-    (λ c. none c.before.before.before.before.before.args.c (inr (omega arith)) (inr (omega arith)) (inl (omega arith)))  -- returns-in_default-3
-    (λ c. none c.before.before.before.before.before.before.args.c (inr (omega arith)) (inr (omega arith)) (inr (omega arith)))  -- returns-in_default-4
+    (λ c. none c.args.c (inl (omega arith)) (inl (omega arith)) (inl (omega arith)))  -- returns-in_default
+    (λ c. none c.args.c (inr (omega arith)) (inl (omega arith)) (inl (omega arith)))  -- returns-in_default-2
+    (λ c. none c.args.c (inr (omega arith)) (inr (omega arith)) (inl (omega arith)))  -- returns-in_default-3
+    (λ c. none c.args.c (inr (omega arith)) (inr (omega arith)) (inr (omega arith)))  -- returns-in_default-4
     )

@@ -25,5 +25,5 @@ marked_spec =
     (λ c. search rules)  -- bounds-s-0
     (λ c. simp (ne_eqb _ _ c.if-s-ne48.true))  -- returns-then-s-ne48
     (λ c. search rules)  -- bounds-s-1
-    (λ c. rw (eq-eqb _ _ c.before.if-s-ne48.false))  -- returns
+    (λ c. rw (eq-eqb _ _ c.before.if-s-ne48.false))  -- returns-then-s-lt2
     )

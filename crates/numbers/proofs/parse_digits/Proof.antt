@@ -12,6 +12,6 @@ parse_digits_spec =
     (tie.spec
     (λ c κs. search rules)  -- well_formed-requires
     (λ c κs. search rules)  -- value-requires
-    (λ c. rw (sym c.before.before.well-formed-2.ensures ∙ c.before.if-well_formed.true) c.value.ensures)  -- returns-then-well_formed
-    (λ c. rw (sym c.before.well-formed-2.ensures ∙ c.if-well_formed.false))  -- returns-else-well_formed
+    (λ c. rw (sym c.before.before.well_formed-2.ensures ∙ c.before.if-well_formed.true) c.value.ensures)  -- returns-then-well_formed
+    (λ c. rw (sym c.before.well_formed-2.ensures ∙ c.if-well_formed.false))  -- returns-else-well_formed
     )

@@ -9,7 +9,7 @@ unfolding separates
 separates_spec =
     tie.close
     (tie.spec
-    (λ c. simp (not-true c.before.args.after c.if-not-after.true))  -- returns-then-not-after
-    (λ c. simp (not-false c.before.before.args.after c.before.if-not-after.false, ne_eqb _ _ c.if-base-ne16.true))  -- returns-then-base-ne16
-    (λ c. simp (not-false c.before.before.args.after c.before.if-not-after.false, eq-eqb _ _ c.if-base-ne16.false))  -- returns
+    (λ c. simp (c.if-not-after.true))  -- returns-then-not-after
+    (λ c. simp (c.if-not-after.false, ne_eqb _ _ c.if-base-ne16.true))  -- returns-then-base-ne16
+    (λ c. simp (c.if-not-after.false, eq-eqb _ _ c.if-base-ne16.false))  -- returns-then-not-after
     )

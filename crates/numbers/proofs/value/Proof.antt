@@ -68,5 +68,5 @@ value_spec =
     (λ c.
     let a = c.before.before.before.args in
     let l = c.before.loop-i in
-    sym (bounded_value l.n l.invariant.1) ∙ ap bounded (sym (value_end a.base a.s.now l.i l.n c.loop-i-test.false) ∙ l.invariant.0))  -- returns
+    sym (bounded_value l.n l.invariant.1) ∙ ap bounded (sym (value_end a.base a.s.now l.i l.n c.loop-i-test.false) ∙ l.invariant.0))  -- returns-then-limit-n
     )

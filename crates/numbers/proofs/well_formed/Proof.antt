@@ -35,16 +35,16 @@ well_formed_spec =
     (λ c.
     let a = c.before.before.before.before.before.before.before.before.args in
     let l = c.before.before.before.before.before.before.loop-i in
-    let e : separates a.base l.after (get_or a.s.now l.i 0) ≡ false = sym c.before.separates.ensures ∙ not-true c.before.separates.result c.if-not-separates.true in
+    let e : separates a.base l.after (get_or a.s.now l.i 0) ≡ false = sym c.before.separates.ensures ∙ c.if-not-separates.true in
     sym (formed_other a.base a.s.now l.i l.after c.before.before.before.before.before.loop-i-test.true (omega arith) e) ∙ l.invariant)  -- returns-then-not-separates
     (λ c. omega arith)  -- loop-less-2
     (λ c.
     let a = c.before.before.before.before.before.before.before.before.args in
     let l = c.before.before.before.before.before.before.loop-i in
-    let e : separates a.base l.after (get_or a.s.now l.i 0) ≡ true = sym c.before.separates.ensures ∙ not-false c.before.separates.result c.if-not-separates.false in
+    let e : separates a.base l.after (get_or a.s.now l.i 0) ≡ true = sym c.before.separates.ensures ∙ c.if-not-separates.false in
     sym (formed_separator a.base a.s.now l.i l.after c.before.before.before.before.before.loop-i-test.true (omega arith) e) ∙ l.invariant)  -- loop-again-2
     (λ c.
     let a = c.before.before.before.args in
     let l = c.before.loop-i in
-    sym (formed_end a.base a.s.now l.i l.after c.loop-i-test.false) ∙ l.invariant)  -- returns
+    sym (formed_end a.base a.s.now l.i l.after c.loop-i-test.false) ∙ l.invariant)  -- returns-then-not-separates
     )

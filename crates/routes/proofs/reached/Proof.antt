@@ -19,8 +19,8 @@ pub reached_spec : {M : Type 1} → statement M
 reached_spec =
     tie.close
     (tie.spec
-    (λ c. search rules)  -- mul-result
-    (λ c. search rules)  -- add-result
-    (λ c. Fits-below tt (mul-le-mul {n₂ = 15} {m₂ = 17} (omega arith) (omega arith)))  -- mul-result-2
+    (λ c. search rules)  -- overflow_mul-result
+    (λ c. search rules)  -- overflow_add-result
+    (λ c. Fits-below tt (mul-le-mul {n₂ = 15} {m₂ = 17} (omega arith) (omega arith)))  -- overflow_mul-result-2
     (λ c. same c.args.route c.ranges.route.fits)  -- returns
     )

@@ -12,10 +12,10 @@ use Rattle.routes.specs.Routes.{routed_of}
 use Rattle.routes.proofs.routed.Statement.{statement}
 use Rattle.routes.proofs.routed.Tie as tie
 
-abbrev invariant_loop : tie.invariant_loop
+abbrev invariant_loop : tie.invariant-loop-w
 invariant_loop which core routes w₀ r₀ w r = Rest 32 32 (λ i j. eqb j i && bit (get_or routes i 0) core) which w r
 
-abbrev decreases_loop : tie.decreases_loop
+abbrev decreases_loop : tie.decreases-loop-w
 decreases_loop which core routes w₀ r₀ w r = w
 
 pub routed_spec : {M : Type 1} → statement M
@@ -26,15 +26,15 @@ routed_spec =
     invariant_loop
     decreases_loop
     (λ c. rest_start c.ranges.which.fits)  -- loop-holds
-    (λ c κs. search rules)  -- lowest32-requires
-    (λ c. search rules)  -- cast-test
-    (λ c. rw c.lowest32.ensures (first_set 32 c.before.before.loop.invariant.left c.before.loop-test.true).0)  -- array-read-test
-    (λ c. search rules)  -- cast-test-2
+    (λ c κs. search rules)  -- lowest32-i-requires
+    (λ c. search rules)  -- overflow_cast-i
+    (λ c. rw c.lowest32-i.ensures (first_set 32 c.before.before.loop-w.invariant.left c.before.loop-w-test.true).0)  -- bounds-routes-i
+    (λ c. search rules)  -- overflow_cast-routes
     (λ c κs. search rules)  -- test-requires
-    (λ c. search rules)  -- cast-r
-    (λ c. rw c.before.lowest32.ensures (first_set 32 c.before.before.before.loop.invariant.left c.before.before.loop-test.true).0)  -- shl-r
-    (λ c κs. search rules)  -- clear-lowest32-requires
-    (λ c. rw c.clear-lowest32.ensures (clear_less 32 c.before.before.before.before.loop.invariant.left c.before.before.before.loop-test.true))  -- loop-less
-    (λ c. rw (c.clear-lowest32.ensures, c.before.test.ensures) (rest_next c.before.before.before.before.loop.invariant c.before.before.before.loop-test.true (rw c.before.before.lowest32.ensures (placed 32 _ _))))  -- loop-again
-    (λ c. rest_none c.before.loop.invariant c.loop-test.false ∙ word_cong 32 (λ j h. own 32 j (bit c.before.before.args.which) _ h))  -- returns
+    (λ c. search rules)  -- overflow_cast-r
+    (λ c. rw c.before.lowest32-i.ensures (first_set 32 c.before.before.before.loop-w.invariant.left c.before.before.loop-w-test.true).0)  -- overflow_shl-r
+    (λ c κs. search rules)  -- clear_lowest32-w-requires
+    (λ c. rw c.clear_lowest32-w.ensures (clear_less 32 c.before.before.before.before.loop-w.invariant.left c.before.before.before.loop-w-test.true))  -- loop-less
+    (λ c. rw (c.clear_lowest32-w.ensures, c.before.test.ensures) (rest_next c.before.before.before.before.loop-w.invariant c.before.before.before.loop-w-test.true (rw c.before.before.lowest32-i.ensures (placed 32 _ _))))  -- loop-again
+    (λ c. rest_none c.before.loop-w.invariant c.loop-w-test.false ∙ word_cong 32 (λ j h. own 32 j (bit c.before.before.args.which) _ h))  -- returns
     )

@@ -9,10 +9,10 @@ use Rattle.text.proofs.Tokens.{printable_more, printable_stop, printable_end}
 use Rattle.text.proofs.printable.Statement.{statement}
 use Rattle.text.proofs.printable.Tie as tie
 
-abbrev invariant_loop : tie.invariant_loop
+abbrev invariant_loop : tie.invariant-loop-i
 invariant_loop s i₀ i = printable_of (drop i s) ≡ printable_of s
 
-abbrev decreases_loop : tie.decreases_loop
+abbrev decreases_loop : tie.decreases-loop-i
 decreases_loop s i₀ i = length s - i
 
 pub printable_spec : {M : Type 1} → statement M
@@ -22,15 +22,15 @@ printable_spec =
     invariant_loop
     decreases_loop
     (λ c. refl)  -- loop-holds
-    (λ c. omega arith)  -- shared-slice-read-shown
+    (λ c. omega arith)  -- bounds-s-i
     (λ c κs. tt)  -- shown-requires
     (λ c.
-    let l = c.before.before.before.before.loop in
-    sym (printable_stop c.before.before.before.before.before.before.args.s.now l.i c.before.before.before.loop-test.true (sym c.before.shown.ensures ∙ not-true c.before.shown.result c.if1.true)) ∙ l.invariant)  -- returns
-    (λ c. omega arith)  -- add-i
+    let l = c.before.before.before.before.loop-i in
+    sym (printable_stop c.before.before.before.before.before.before.args.s.now l.i c.before.before.before.loop-i-test.true (sym c.before.shown.ensures ∙ c.if-not-shown.true)) ∙ l.invariant)  -- returns-then-not-shown
+    (λ c. omega arith)  -- overflow_add-i
     (λ c. omega arith)  -- loop-less
     (λ c.
-    let l = c.before.before.before.before.loop in
-    sym (printable_more c.before.before.before.before.before.before.args.s.now l.i c.before.before.before.loop-test.true (sym c.before.shown.ensures ∙ not-false c.before.shown.result c.if1.false)) ∙ l.invariant)  -- loop-again
-    (λ c. sym (printable_end c.before.before.before.args.s.now c.before.loop.i c.loop-test.false) ∙ c.before.loop.invariant)  -- returns-2
+    let l = c.before.before.before.before.loop-i in
+    sym (printable_more c.before.before.before.before.before.before.args.s.now l.i c.before.before.before.loop-i-test.true (sym c.before.shown.ensures ∙ c.if-not-shown.false)) ∙ l.invariant)  -- loop-again
+    (λ c. sym (printable_end c.before.before.before.args.s.now c.before.loop-i.i c.loop-i-test.false) ∙ c.before.loop-i.invariant)  -- returns
     )

@@ -11,12 +11,12 @@ pub put_end_spec : {M : Type 1} → statement M
 put_end_spec =
     tie.close
     (tie.spec
-    (λ c. search rules)  -- sub-put
-    (λ c. search rules)  -- part-put-start
-    (λ c. search rules)  -- part-put-end
+    (λ c. search rules)  -- slice_bounds-put-count
+    (λ c. search rules)  -- slice_bounds-put-start
+    (λ c. search rules)  -- slice_bounds-put-end
     (λ c κs. search rules)  -- put-requires
-    (λ c. search rules)  -- same-length
+    (λ c. search rules)  -- shape_of-out
     (λ c.
-    let a = c.before.before.before.before.before.before.before.args in
-    rw (take_all (20 - a.start) (drop a.start a.t3) (simp length-drop (omega arith))) at c.before.before.put.ensures)  -- returns
+    let a = c.args in
+    rw (take_all (20 - a.start) (drop a.start a.bytes) (simp length-drop (omega arith))) at c.before.before.put.ensures)  -- returns
     )

@@ -9,8 +9,8 @@ pub put_hex_spec : {M : Type 1} → statement M
 put_hex_spec =
     tie.close
     (tie.spec
-    (λ c κs. search rules)  -- hex-requires
-    (λ c κs. search ended_start)  -- put-end-requires
-    (λ c. search rules)  -- same-length
+    (λ c κs. search rules)  -- hex-digits-requires
+    (λ c κs. search ended_start)  -- put_end-requires
+    (λ c. search rules)  -- shape_of-out
     (λ c. search put_digits)  -- returns
     )

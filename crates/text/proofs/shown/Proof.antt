@@ -10,7 +10,7 @@ unfolding shown
 shown_spec =
     tie.close
     (tie.spec
+    (λ c. search (tests, rules))  -- returns-then-c-eq9
+    (λ c. search (tests, rules))  -- returns-then-c-lt32
     (λ c. search (tests, rules))  -- returns
-    (λ c. search (tests, rules))  -- returns-2
-    (λ c. search (tests, rules))  -- returns-3
     )

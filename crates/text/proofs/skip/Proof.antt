@@ -15,10 +15,10 @@ use Rattle.text.proofs.skip.Tie as tie
 abbrev skipped : ℕ → Bool → ℕ → Bool
 skipped set inside = cond inside (bit set) (λ c. not (bit set c))
 
-abbrev invariant_loop : tie.invariant_loop
+abbrev invariant_loop : tie.invariant-loop-i
 invariant_loop s from set inside i₀ i = past (skipped set inside) s i ≡ past (skipped set inside) s from
 
-abbrev decreases_loop : tie.decreases_loop
+abbrev decreases_loop : tie.decreases-loop-i
 decreases_loop s from set inside i₀ i = length s - i
 
 when_in : (b : Bool) → b ≡ not (not (beq b true))
@@ -39,17 +39,17 @@ skip_spec =
     invariant_loop
     decreases_loop
     (λ c. refl)  -- loop-holds
-    (λ c. omega arith)  -- shared-slice-read-within
+    (λ c. omega arith)  -- bounds-s-i
     (λ c κs. tt)  -- within-requires
     (λ c.
     let a = c.before.before.before.before.before.before.args in
-    let l = c.before.before.before.before.loop in
-    sym (past_stop (skipped a.set a.inside) a.s.now l.i c.before.before.before.loop-test.true (tested a.set a.inside _ c.before.within.result true c.before.within.ensures c.if1.true)) ∙ l.invariant)  -- returns
-    (λ c. omega arith)  -- add-i
+    let l = c.before.before.before.before.loop-i in
+    sym (past_stop (skipped a.set a.inside) a.s.now l.i c.before.before.before.loop-i-test.true (tested a.set a.inside _ c.before.within.result true c.before.within.ensures c.if-within-inside.true)) ∙ l.invariant)  -- returns-then-within-inside
+    (λ c. omega arith)  -- overflow_add-i
     (λ c. omega arith)  -- loop-less
     (λ c.
     let a = c.before.before.before.before.before.before.args in
-    let l = c.before.before.before.before.loop in
-    sym (past_more (skipped a.set a.inside) a.s.now l.i c.before.before.before.loop-test.true (tested a.set a.inside _ c.before.within.result false c.before.within.ensures c.if1.false)) ∙ l.invariant)  -- loop-again
-    (λ c. sym (past_end (skipped c.before.before.before.args.set c.before.before.before.args.inside) c.before.before.before.args.s.now c.before.loop.i c.loop-test.false) ∙ c.before.loop.invariant)  -- returns-2
+    let l = c.before.before.before.before.loop-i in
+    sym (past_more (skipped a.set a.inside) a.s.now l.i c.before.before.before.loop-i-test.true (tested a.set a.inside _ c.before.within.result false c.before.within.ensures c.if-within-inside.false)) ∙ l.invariant)  -- loop-again
+    (λ c. sym (past_end (skipped c.before.before.before.args.set c.before.before.before.args.inside) c.before.before.before.args.s.now c.before.loop-i.i c.loop-i-test.false) ∙ c.before.loop-i.invariant)  -- returns
     )

@@ -24,10 +24,10 @@ token_spec =
     tie.close
     (tie.spec
     (λ c κs. tt)  -- least-requires
-    (λ c κs. tt)  -- token-by-requires
+    (λ c κs. tt)  -- token_by-requires
     (λ c.
     let a = c.before.before.before.args in
-    c.token-by.ensures
+    c.token_by.ensures
     ∙ ap₂ (λ f g. token_by f g a.s.now c.before.least.result) (set_is _ blank no_blank refl refl) (set_is _ ends no_end refl refl)
     ∙ ap (token_by blank ends a.s.now) c.before.least.ensures)  -- returns
     )

@@ -8,7 +8,7 @@ unfolding token_by
 token_by_spec =
     tie.close
     (tie.spec
-    (λ c κs. tt)  -- skip-requires
-    (λ c κs. tt)  -- skip-requires-2
-    (λ c. rw (c.skip2.ensures, c.before.skip.ensures))  -- returns
+    (λ c κs. tt)  -- skip-start-requires
+    (λ c κs. tt)  -- skip-end-requires
+    (λ c. rw (c.skip-end.ensures, c.before.skip-start.ensures))  -- returns
     )
