@@ -1,8 +1,8 @@
 -- The tables of the windows by ranges of the offset, as the code matches on it.
-use Prim.Native.Nat.{ℕ, ◌+◌, ◌-◌, ◌<◌, ◌≤◌}
+use Prim.Native.Nat.{ℕ, ◌-◌, ◌<◌, ◌≤◌}
 use mathlib.Core.Path.{◌≡◌, refl, ap, ◌∙◌}
 use mathlib.Core.Bool.{cond}
-use mathlib.Core.Logic.{◌⊎◌, inl, inr, ⊎_elim}
+use mathlib.Core.Logic.{inl, inr, ⊎_elim}
 use mathlib.Core.List.{List, ◌++◌}
 use native.Mathlib.Nat.{add-sub_of_le, zero-add}
 use native.Mathlib.Omega.{arith}
@@ -97,7 +97,7 @@ module _ (w : Window) (o : ℕ) where
   beside_node h = beside_or ∙ rw (alone_past w o h) (either (on_node (nodes.entry_at o)))
     where
       either : (l : Located) → cond (nowhere l) Nowhere l ≡ l
-      either l = elim l [ Nowhere ↦ refl | At place access ↦ refl ]
+      either l = elim l as (λ (k : Located). cond (nowhere k) Nowhere k ≡ k) [ Nowhere ↦ refl | At place access ↦ refl ]
 
   pub beside_alone : o < 0x1400 → beside_at w o ≡ alone_at w o
   beside_alone h = beside_or ∙ rw (node.nothing o (inl h))

@@ -8,7 +8,7 @@ ghost use Rattle.windows.specs.Private.{alone_at, beside_at, core_in, core_term,
 use access::{Access, Rights, Widths};
 
 // The two windows of the bus, and the private window of a core.
-#[derive(Drop)]
+#[derive(Clone, Copy)]
 pub enum Window {
     First,
     Second,

@@ -10,12 +10,12 @@ unfolding alone_at alone_in
 alone_spec =
     tie.close
     (tie.spec
-    (λ c. search rules)  -- enum_told
-    (λ c κs. search rules)  -- first-alone-requires
-    (λ c. search rules)  -- enum-told-2
-    (λ c. search rules)  -- enum-known-window
-    (λ c κs. search rules)  -- private-alone-requires
-    (λ c. search (tests, ← c.first_alone.ensures, c.before.enum_told.given.1))  -- returns
-    (λ c. search (tests, c.enum-told2.given.1))  -- returns-2
-    (λ c. search (tests, ← c.private-alone.ensures, c.before.before.window.given.1))  -- returns-3
+    (λ c. search rules)  -- enum_told-1
+    (λ c κs. search rules)  -- first_alone-requires
+    (λ c. search rules)  -- enum_told-in-Second
+    (λ c. search rules)  -- enum_known-window
+    (λ c κs. search rules)  -- private_alone-requires
+    (λ c. search (tests, ← c.first_alone.ensures, c.in-First.is))  -- returns-in-First
+    (λ c. search (tests, c.in-Second.is))  -- returns-in-Second
+    (λ c. search (tests, ← c.private_alone.ensures, c.in-Private.is))  -- returns-in-Private
     )

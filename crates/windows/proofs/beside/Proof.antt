@@ -9,8 +9,8 @@ beside_spec =
     tie.close
     (tie.spec
     (λ c κs. search rules)  -- alone-requires
-    (λ c κs. search rules)  -- entry-at-requires
-    (λ c κs. search rules)  -- on-node-requires
-    (λ c. c.alone.ensures ∙ sym (beside_alone _ _ c.before.if1.true))  -- returns
-    (λ c. c.on-node.ensures ∙ rw c.before.entry_at.ensures (sym (beside_node _ _ c.before.before.if1.false)))  -- returns-2
+    (λ c κs. search rules)  -- entry_at-requires
+    (λ c κs. search rules)  -- on_node-requires
+    (λ c. c.alone.ensures ∙ sym (beside_alone _ _ c.if-offset-lt5120.true))  -- returns-then-offset-lt5120
+    (λ c. c.on_node.ensures ∙ rw c.before.entry_at.ensures (sym (beside_node _ _ c.if-offset-lt5120.false)))  -- returns-else-offset-lt5120
     )

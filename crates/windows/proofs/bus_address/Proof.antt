@@ -6,7 +6,7 @@ pub bus_address_spec : {M : Type 1} → statement M
 bus_address_spec =
     tie.close
     (tie.spec
-    (λ c. search (tests, c.if1.true))  -- returns
-    (λ c. search (tests, c.if2.true, c.before.if1.false))  -- returns-2
-    (λ c. search (tests, c.if2.false, c.before.if1.false))  -- returns-3
+    (λ c. search (tests, c.if-address-lt534773760.true))  -- returns-then-address-lt534773760
+    (λ c. search (tests, c.if-address-lt1072693248.true, c.if-address-lt534773760.false))  -- returns-then-address-lt1072693248
+    (λ c. search (tests, c.if-address-lt1072693248.false, c.if-address-lt534773760.false))  -- returns
     )

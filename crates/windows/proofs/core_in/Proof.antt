@@ -7,12 +7,12 @@ pub core_in_spec : {M : Type 1} → statement M
 core_in_spec =
     tie.close
     (tie.spec
-    (λ c. search rules)  -- enum_told
-    (λ c κs. search rules)  -- core-term-requires
-    (λ c. search rules)  -- enum-told-2
-    (λ c κs. search rules)  -- core-term-requires-2
-    (λ c. search rules)  -- enum-known-window
-    (λ c. search (tests, ← c.core-term.ensures, c.before.enum_told.given.1))  -- returns
-    (λ c. search (tests, ← c.core-term2.ensures, c.before.enum-told2.given.1))  -- returns-2
-    (λ c. search rules)  -- returns-3
+    (λ c. search rules)  -- enum_told-1
+    (λ c κs. search rules)  -- core_term-requires
+    (λ c. search rules)  -- enum_told-in-Second
+    (λ c κs. search rules)  -- core_term-requires-in-Second
+    (λ c. search rules)  -- enum_known-window
+    (λ c. search (tests, ← c.core_term.ensures, c.in-First.is))  -- returns-in-First
+    (λ c. search (tests, ← c.core_term-in-Second.ensures, c.in-Second.is))  -- returns-in-Second
+    (λ c. search rules)  -- returns-in-Private
     )

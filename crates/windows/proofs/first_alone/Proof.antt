@@ -10,9 +10,9 @@ unfolding alone_at alone_in
 first_alone_spec =
     tie.close
     (tie.spec
-    (λ c κs. search rules)  -- gate-at-requires
-    (λ c κs. search rules)  -- gate-at-requires-2
-    (λ c. search (tests, ← c.gate-at.ensures, c.before.match.keys1))  -- returns
-    (λ c. search (tests, ← c.gate-at2.ensures, c.before.match.keys2))  -- returns-2
-    (λ c. search (tests, c.match.rest))  -- returns-3
+    (λ c κs. search rules)  -- gate_at-requires
+    (λ c κs. search rules)  -- gate_at-requires-in-1060
+    (λ c. search (tests, ← c.gate_at.ensures, c.in-1056.is))  -- returns-in-1056
+    (λ c. search (tests, ← c.gate_at-in-1060.ensures, c.in-1060.is))  -- returns-in-1060
+    (λ c. search (tests, c.in_default.in_default-own.rest))  -- returns-in_default
     )

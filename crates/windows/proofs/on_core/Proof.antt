@@ -7,8 +7,8 @@ pub on_core_spec : {M : Type 1} → statement M
 on_core_spec =
     tie.close
     (tie.spec
-    (λ c. search rules)  -- enum-told
-    (λ c. search rules)  -- enum-known-found
-    (λ c. search rules)  -- returns
-    (λ c. search (tests, c.before.before.found.given.1))  -- returns-2
+    (λ c. search rules)  -- enum_told-1
+    (λ c. search rules)  -- enum_known-found
+    (λ c. search rules)  -- returns-in-Nothing
+    (λ c. search (tests, c.in-At.is))  -- returns-in-At
     )

@@ -7,12 +7,12 @@ pub own_offset_spec : {M : Type 1} → statement M
 own_offset_spec =
     tie.close
     (tie.spec
-    (λ c. search rules)  -- enum_told
-    (λ c κs. search rules)  -- without-term-requires
-    (λ c. search rules)  -- enum-told-2
-    (λ c κs. search rules)  -- without-term-requires-2
-    (λ c. search rules)  -- enum-told-3
-    (λ c. search (tests, ← c.without-term.ensures, c.before.enum_told.given.1))  -- returns
-    (λ c. search (tests, ← c.without-term2.ensures, c.before.enum-told2.given.1))  -- returns-2
-    (λ c. search rules)  -- returns-3
+    (λ c. search rules)  -- enum_told-1
+    (λ c κs. search rules)  -- without_term-requires
+    (λ c. search rules)  -- enum_told-in-Second
+    (λ c κs. search rules)  -- without_term-requires-in-Second
+    (λ c. search rules)  -- enum_told-in-Private
+    (λ c. search (tests, ← c.without_term.ensures, c.in-First.is))  -- returns-in-First
+    (λ c. search (tests, ← c.without_term-in-Second.ensures, c.in-Second.is))  -- returns-in-Second
+    (λ c. search rules)  -- returns-in-Private
     )

@@ -9,10 +9,10 @@ pub private_alone_spec : {M : Type 1} → statement M
 private_alone_spec =
     tie.close
     (tie.spec
-    (λ c κs. search rules)  -- per-core-requires
-    (λ c κs. search rules)  -- on-node-requires
-    (λ c κs. search rules)  -- send-at-requires
-    (λ c κs. search rules)  -- on-core-requires
-    (λ c. c.on-node.ensures ∙ rw (c.before.per-core.ensures, private_alone, eq-eqb _ _ c.before.before.match.keys1))  -- returns
-    (λ c. c.on-core.ensures ∙ rw (c.before.IsSend-at.ensures, private_alone, ne_eqb c.before.before.before.args.offset 0x1010 (search rules)))  -- returns-2
+    (λ c κs. search rules)  -- per_core-requires
+    (λ c κs. search rules)  -- on_node-requires
+    (λ c κs. search rules)  -- send_at-requires
+    (λ c κs. search rules)  -- on_core-requires
+    (λ c. c.on_node.ensures ∙ rw (c.before.per_core.ensures, private_alone, eq-eqb _ _ c.in-4112.is))  -- returns-in-4112
+    (λ c. c.on_core.ensures ∙ rw (c.send_at.ensures, private_alone, ne_eqb c.args.offset 0x1010 (search rules)))  -- returns-in_default
     )
