@@ -8,7 +8,7 @@ ghost use Rattle.capture_dump.specs.Pieces.{pen_of, Inked};
 ghost use Rattle.capture_dump.specs.Private.{Emitted};
 
 // The four base lines.
-#[derive(Drop)]
+#[derive(Clone, Copy)]
 pub struct Lines {
     pub ipi0: bool,
     pub ipi1: bool,
@@ -17,7 +17,7 @@ pub struct Lines {
 }
 
 // A time: whether it is the first, and the lines at the end of the one before.
-#[derive(Drop)]
+#[derive(Clone, Copy)]
 pub struct Time {
     pub time: u64,
     pub first: bool,
@@ -25,7 +25,7 @@ pub struct Time {
 }
 
 // The place after what was put into a buffer or measured, and whether something did not fit.
-#[derive(Drop)]
+#[derive(Clone, Copy)]
 pub struct Pen {
     pub at: usize,
     pub full: bool,

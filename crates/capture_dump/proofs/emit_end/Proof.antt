@@ -12,12 +12,12 @@ pub emit_end_spec : {M : Type 1} → statement M
 emit_end_spec =
     tie.close
     (tie.spec
-    (λ c. search rules)  -- sub-emit
-    (λ c. search rules)  -- part-emit-start
-    (λ c. search rules)  -- part-emit-end
+    (λ c. search rules)  -- slice_bounds-emit-count
+    (λ c. search rules)  -- slice_bounds-emit-start
+    (λ c. search rules)  -- slice_bounds-emit-end
     (λ c κs. search rules)  -- emit-requires
-    (λ c. search rules)  -- same-length
+    (λ c. search rules)  -- shape_of-out
     (λ c.
-    let a = c.before.before.before.before.before.before.before.args in
-    rw (take_all (20 - a.start) (drop a.start a.t3) (simp length-drop (omega arith))) at (inked_emitted c.before.before.emit.ensures))  -- returns
+    let a = c.args in
+    rw (take_all (20 - a.start) (drop a.start a.bytes) (simp length-drop (omega arith))) at (inked_emitted c.before.before.emit.ensures))  -- returns
     )

@@ -10,11 +10,10 @@ unfolding line_text
 emit_line_spec =
     tie.close
     (tie.spec
-    (λ c κs. search rules)  -- emit-value-requires
-    (λ c. search rules)  -- same-length
-    (λ c. rw c.before.before.before.before.if1.true c.before.before.emit-value.ensures)  -- returns
-    (λ c. search rules)  -- slice-aggregate-emit
+    (λ c κs. search rules)  -- emit_value-requires
+    (λ c. search rules)  -- shape_of-out-then-shows
+    (λ c. rw c.before.before.before.before.if-shows.true c.before.before.emit_value.ensures)  -- returns-then-shows
     (λ c κs. search rules)  -- emit-requires
-    (λ c. search rules)  -- same-length-2
-    (λ c. rw c.before.before.before.before.before.if1.false (inked_emitted c.before.before.emit.ensures))  -- returns-2
+    (λ c. search rules)  -- shape_of-out
+    (λ c. rw c.before.before.before.before.before.if-shows.false (inked_emitted c.before.before.emit.ensures))  -- returns
     )

@@ -8,17 +8,17 @@ pub emit_lines_spec : {M : Type 1} → statement M
 emit_lines_spec =
     tie.close
     (tie.spec
-    (λ c κs. search rules)  -- differs-requires
-    (λ c κs. search rules)  -- differs-requires-2
-    (λ c κs. search rules)  -- differs-requires-3
-    (λ c κs. search rules)  -- differs-requires-4
-    (λ c κs. search rules)  -- emit-line-requires
-    (λ c κs. search rules)  -- emit-line-requires-2
-    (λ c κs. search rules)  -- emit-line-requires-3
-    (λ c κs. search rules)  -- emit-line-requires-4
-    (λ c. search rules)  -- same-length
+    (λ c κs. search rules)  -- differs-a-requires
+    (λ c κs. search rules)  -- differs-b-requires
+    (λ c κs. search rules)  -- differs-c-requires
+    (λ c κs. search rules)  -- differs-d-requires
+    (λ c κs. search rules)  -- emit_line-q-requires
+    (λ c κs. search rules)  -- emit_line-r-requires
+    (λ c κs. search rules)  -- emit_line-s-requires
+    (λ c κs. search rules)  -- emit_line-requires
+    (λ c. search rules)  -- shape_of-out
     (λ c.
     let d = c.before.before.before.before.before.before.before.before.before.before.before.before.before.before.before.before in
-    rw (← d.before.before.before.differs.ensures, ← d.before.before.differs2.ensures, ← d.before.differs3.ensures, ← d.differs4.ensures)
-    (join c.before.before.before.before.before.before.before.before.before.before.before.before.before.before.emit-line.ensures (join c.before.before.before.before.before.before.before.before.before.before.emit-line2.ensures (join c.before.before.before.before.before.before.emit-line3.ensures c.before.before.emit-line4.ensures))))  -- returns
+    rw (← d.before.before.before.differs-a.ensures, ← d.before.before.differs-b.ensures, ← d.before.differs-c.ensures, ← d.differs-d.ensures)
+    (join c.before.before.before.before.before.before.before.before.before.before.before.before.before.before.emit_line-q.ensures (join c.before.before.before.before.before.before.before.before.before.before.emit_line-r.ensures (join c.before.before.before.before.before.before.emit_line-s.ensures c.before.before.emit_line.ensures))))  -- returns
     )

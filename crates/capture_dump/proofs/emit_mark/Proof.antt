@@ -12,19 +12,18 @@ unfolding mark_text
 emit_mark_spec =
     tie.close
     (tie.spec
-    (λ c κs. search rules)  -- some-differs-requires
-    (λ c κs. search rules)  -- emit-time-requires
-    (λ c κs. search rules)  -- emit-lines-requires
-    (λ c. search rules)  -- same-length
+    (λ c κs. search rules)  -- some_differs-requires
+    (λ c κs. search rules)  -- emit_time-q-requires
+    (λ c κs. search rules)  -- emit_lines-requires
+    (λ c. search rules)  -- shape_of-out-then-some_differs
     (λ c.
     let a = c.before.before.before.before.before.before.before.before.before.before.before.before.args in
-    let h : some_differs a.t.first a.t.before a.after ≡ true = sym c.before.before.before.before.before.before.before.before.before.some-differs.ensures ∙ c.before.before.before.before.before.before.before.before.if1.true in
-    rw h (join c.before.before.before.before.before.before.emit-time.ensures c.before.before.emit-lines.ensures))  -- returns
-    (λ c. search rules)  -- slice-aggregate-emit
+    let h : some_differs a.t.first a.t.before a.after ≡ true = sym c.before.before.before.before.before.before.before.before.before.some_differs.ensures ∙ c.before.before.before.before.before.before.before.before.if-some_differs.true in
+    rw h (join c.before.before.before.before.before.before.emit_time-q.ensures c.before.before.emit_lines.ensures))  -- returns-then-some_differs
     (λ c κs. search rules)  -- emit-requires
-    (λ c. search rules)  -- same-length-2
+    (λ c. search rules)  -- shape_of-out
     (λ c.
     let a = c.before.before.before.before.before.before.before.before.before.args in
-    let h : some_differs a.t.first a.t.before a.after ≡ false = sym c.before.before.before.before.before.before.some-differs.ensures ∙ c.before.before.before.before.before.if1.false in
-    rw h (inked_emitted c.before.before.emit.ensures))  -- returns-2
+    let h : some_differs a.t.first a.t.before a.after ≡ false = sym c.before.before.before.before.before.before.some_differs.ensures ∙ c.before.before.before.before.before.if-some_differs.false in
+    rw h (inked_emitted c.before.before.emit.ensures))  -- returns
     )

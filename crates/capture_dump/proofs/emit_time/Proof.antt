@@ -10,11 +10,9 @@ unfolding time_text
 emit_time_spec =
     tie.close
     (tie.spec
-    (λ c. search rules)  -- slice-aggregate-emit
+    (λ c κs. search rules)  -- emit-q-requires
+    (λ c κs. search rules)  -- emit_decimal-r-requires
     (λ c κs. search rules)  -- emit-requires
-    (λ c κs. search rules)  -- emit-decimal-requires
-    (λ c. search rules)  -- slice-aggregate-emit-2
-    (λ c κs. search rules)  -- emit-requires-2
-    (λ c. search rules)  -- same-length
-    (λ c. join (inked_emitted c.before.before.before.before.before.before.before.before.before.before.before.emit.ensures) (join c.before.before.before.before.before.before.before.emit-decimal.ensures (inked_emitted c.before.before.emit2.ensures)))  -- returns
+    (λ c. search rules)  -- shape_of-out
+    (λ c. join (inked_emitted c.before.before.before.before.before.before.before.before.before.before.before.emit-q.ensures) (join c.before.before.before.before.before.before.before.emit_decimal-r.ensures (inked_emitted c.before.before.emit.ensures)))  -- returns
     )

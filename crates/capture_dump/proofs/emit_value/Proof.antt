@@ -10,12 +10,12 @@ unfolding value_text
 emit_value_spec =
     tie.close
     (tie.spec
-    (λ c. search rules)  -- slice-aggregate-emit
+    (λ c. search rules)  -- slice_bounds-emit-end
     (λ c κs. search rules)  -- emit-requires
-    (λ c. search rules)  -- same-length
-    (λ c. rw c.before.before.before.before.before.if1.true (inked_emitted c.before.before.emit.ensures))  -- returns
-    (λ c. search rules)  -- slice-aggregate-emit-2
+    (λ c. search rules)  -- shape_of-out-then-on
+    (λ c. rw c.before.before.before.before.before.if-on.true (inked_emitted c.before.before.emit.ensures))  -- returns-then-on
+    (λ c. search rules)  -- slice_bounds-emit-end-2
     (λ c κs. search rules)  -- emit-requires-2
-    (λ c. search rules)  -- same-length-2
-    (λ c. rw c.before.before.before.before.before.if1.false (inked_emitted c.before.before.emit2.ensures))  -- returns-2
+    (λ c. search rules)  -- shape_of-out
+    (λ c. rw c.before.before.before.before.before.if-on.false (inked_emitted c.before.before.emit-2.ensures))  -- returns
     )

@@ -9,11 +9,10 @@ unfolding end_text
 put_end_spec =
     tie.close
     (tie.spec
-    (λ c κs. search rules)  -- put-mark-requires
-    (λ c. search rules)  -- same-length
-    (λ c. rw c.before.before.before.before.if1.true c.before.before.put-mark.ensures)  -- returns
-    (λ c. search rules)  -- slice-aggregate-emit
+    (λ c κs. search rules)  -- put_mark-requires
+    (λ c. search rules)  -- shape_of-out-then-ends
+    (λ c. rw c.before.before.before.before.if-ends.true c.before.before.put_mark.ensures)  -- returns-then-ends
     (λ c κs. search rules)  -- emit-requires
-    (λ c. search rules)  -- same-length-2
-    (λ c. rw c.before.before.before.before.before.if1.false c.before.before.emit.ensures)  -- returns-2
+    (λ c. search rules)  -- shape_of-out
+    (λ c. rw c.before.before.before.before.before.if-ends.false c.before.before.emit.ensures)  -- returns
     )

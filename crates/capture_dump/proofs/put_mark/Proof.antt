@@ -9,12 +9,12 @@ pub put_mark_spec : {M : Type 1} → statement M
 put_mark_spec =
     tie.close
     (tie.spec
-    (λ c κs. search rules)  -- emit-mark-requires
-    (λ c. search rules)  -- same-length
-    (λ c. overfull c.before.before.before.emit-mark.ensures c.if1.true)  -- returns
-    (λ c. search rules)  -- same-length-2
-    (λ c. measured (not-true c.before.before.before.before.before.before.before.args.write c.if2.true) c.before.before.before.before.emit-mark.ensures)  -- returns-2
-    (λ c κs. search rules)  -- emit-mark-requires-2
-    (λ c. search rules)  -- same-length-3
-    (λ c. written (not-false c.before.before.before.before.before.before.before.before.before.before.before.args.write c.before.before.before.before.if2.false) c.before.before.before.before.before.before.before.before.emit-mark.ensures c.before.before.before.before.before.if1.false c.before.before.emit-mark2.ensures)  -- returns-3
+    (λ c κs. search rules)  -- emit_mark-q-requires
+    (λ c. search rules)  -- shape_of-out-then-q
+    (λ c. overfull c.before.before.before.emit_mark-q.ensures c.if-q.true)  -- returns-then-q
+    (λ c. search rules)  -- shape_of-out-then-not-write
+    (λ c. measured (c.if-not-write.true) c.before.before.before.before.emit_mark-q.ensures)  -- returns-then-not-write
+    (λ c κs. search rules)  -- emit_mark-requires
+    (λ c. search rules)  -- shape_of-out
+    (λ c. written (c.before.before.before.before.if-not-write.false) c.before.before.before.before.before.before.before.before.emit_mark-q.ensures c.before.before.before.before.before.if-q.false c.before.before.emit_mark.ensures)  -- returns
     )

@@ -9,8 +9,7 @@ unfolding opening
 put_opening_spec =
     tie.close
     (tie.spec
-    (λ c. search rules)  -- slice-aggregate-emit
     (λ c κs. search rules)  -- emit-requires
-    (λ c. search rules)  -- same-length
+    (λ c. search rules)  -- shape_of-out
     (λ c. c.before.before.emit.ensures)  -- returns
     )

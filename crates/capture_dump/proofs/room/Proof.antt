@@ -11,11 +11,11 @@ pub room_spec : {M : Type 1} → statement M
 room_spec =
     tie.close
     (tie.spec
-    (λ c s e. sym (pen_full c.before.args.size c.before.args.p s c.if1.true))  -- returns
-    (λ c s e. sym (pen_over c.before.before.before.args.size c.before.before.before.args.p s (omega arith)))  -- returns-2
-    (λ c s e. sym (pen_over c.before.before.before.before.before.args.size c.before.before.before.before.before.args.p s (omega arith)))  -- returns-3
-    (λ c. search rules)  -- add-t5
+    (λ c s e. sym (pen_full c.before.args.size c.before.args.p s c.if-p.true))  -- returns-then-p
+    (λ c s e. sym (pen_over c.before.before.before.args.size c.before.before.before.args.p s (omega arith)))  -- returns-then-size-p
+    (λ c s e. sym (pen_over c.before.before.before.before.before.args.size c.before.before.before.before.before.args.p s (omega arith)))  -- returns-then-size-p-2
+    (λ c. search rules)  -- overflow_add-result
     (λ c s e.
     let a = c.before.before.before.before.before.before.args in
-    ap (λ n. free (a.p.at + n)) (sym e) ∙ sym (pen_free a.size a.p s c.before.before.before.before.before.if1.false (omega arith)))  -- returns-4
+    ap (λ n. free (a.p.at + n)) (sym e) ∙ sym (pen_free a.size a.p s c.before.before.before.before.before.if-p.false (omega arith)))  -- returns
     )

@@ -9,9 +9,9 @@ unfolding some_differs
 some_differs_spec =
     tie.close
     (tie.spec
-    (λ c κs. search rules)  -- differs-requires
-    (λ c κs. search rules)  -- differs-requires-2
-    (λ c κs. search rules)  -- differs-requires-3
-    (λ c κs. search rules)  -- differs-requires-4
-    (λ c. rw (c.differs4.ensures, c.before.differs3.ensures, c.before.before.differs2.ensures, c.before.before.before.differs.ensures))  -- returns
+    (λ c κs. search rules)  -- differs-a-requires
+    (λ c κs. search rules)  -- differs-b-requires
+    (λ c κs. search rules)  -- differs-c-requires
+    (λ c κs. search rules)  -- differs-d-requires
+    (λ c. rw (c.differs-d.ensures, c.before.differs-c.ensures, c.before.before.differs-b.ensures, c.before.before.before.differs-a.ensures))  -- returns
     )

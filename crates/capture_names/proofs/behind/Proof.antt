@@ -17,11 +17,11 @@ pub behind_spec : {M : Type 1} → statement M
 behind_spec =
     tie.close
     (tie.spec
-    (λ c. empty c.before.args.t.now c.if1.true)  -- returns
-    (λ c. search rules)  -- sub-result
-    (λ c. search rules)  -- part-result-start
-    (λ c. search rules)  -- part-result-end
+    (λ c. empty c.before.args.t.now c.if-t-eq0.true)  -- returns-then-t-eq0
+    (λ c. search rules)  -- slice_bounds-result-count
+    (λ c. search rules)  -- slice_bounds-result-start
+    (λ c. search rules)  -- slice_bounds-result-end
     (λ c.
     let t = c.before.before.args.t.now in
-    take_all (length t - 1) (drop 1 t) (simp length-drop (omega arith)))  -- returns-2
+    take_all (length t - 1) (drop 1 t) (simp length-drop (omega arith)))  -- returns
     )

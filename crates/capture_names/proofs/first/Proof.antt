@@ -9,7 +9,7 @@ pub first_spec : {M : Type 1} → statement M
 first_spec =
     tie.close
     (tie.spec
-    (λ c. search rules)  -- shared-slice-read-result
-    (λ c. search rules)  -- returns
-    (λ c. sym (get_or-eq_default c.before.args.t.now 0 c.if1.false))  -- returns-2
+    (λ c. search rules)  -- bounds-t-0
+    (λ c. search rules)  -- returns-then-t-gt0
+    (λ c. sym (get_or-eq_default c.before.args.t.now 0 c.if-t-gt0.false))  -- returns-else-t-gt0
     )

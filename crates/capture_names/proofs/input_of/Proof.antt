@@ -9,8 +9,7 @@ unfolding input_of
 input_of_spec =
     tie.close
     (tie.spec
-    (λ c. search rules)  -- slice-aggregate-index-of
     (λ c κs. tt)  -- name-requires
-    (λ c κs. tt)  -- index-of-requires
+    (λ c κs. tt)  -- index_of-requires
     (λ c. rw (c.index_of.ensures, c.before.name.ensures))  -- returns
     )

@@ -27,8 +27,8 @@ name_spec =
     (tie.spec
     (λ c κs. tt)  -- first-requires
     (λ c κs. tt)  -- behind-requires
-    (λ c. rw (c.behind.ensures, ← c.before.before.first.ensures, c.before.if1.true))  -- returns
-    (λ c κs. tt)  -- name-length-requires
-    (λ c. rw (c.before.name-length.ensures, begins))  -- slice-aggregate-result
-    (λ c. rw (c.before.name-length.ensures, begins, ← c.before.before.before.first.ensures, ne_eqb _ _ c.before.before.if1.false))  -- returns-2
+    (λ c. rw (c.behind.ensures, ← c.before.before.first.ensures, c.before.if-first-eq92.true))  -- returns-then-first-eq92
+    (λ c κs. tt)  -- name_length-n-requires
+    (λ c. rw (c.name_length-n.ensures, begins))  -- slice_bounds-result-end
+    (λ c. rw (c.name_length-n.ensures, begins, ← c.first.ensures, ne_eqb _ _ c.if-first-eq92.false))  -- returns
     )

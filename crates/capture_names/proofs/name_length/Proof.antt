@@ -13,10 +13,10 @@ use Rattle.capture_names.proofs.name_length.Tie as tie
 abbrev left : List ℕ → ℕ → ℕ
 left t i = length (before 91 (drop i t))
 
-abbrev invariant_loop : tie.invariant_loop
+abbrev invariant_loop : tie.invariant-loop-i
 invariant_loop t i₀ i = i + left t i ≡ length (before 91 t)
 
-abbrev decreases_loop : tie.decreases_loop
+abbrev decreases_loop : tie.decreases-loop-i
 decreases_loop t i₀ i = length t - i
 
 pub name_length_spec : {M : Type 1} → statement M
@@ -27,22 +27,22 @@ name_length_spec =
     invariant_loop
     decreases_loop
     (λ c. omega arith)  -- loop-holds
-    (λ c. omega arith)  -- shared-slice-read-if1
+    (λ c. omega arith)  -- bounds-t-i
     (λ c.
     let t = c.before.before.before.before.args.t.now in
-    let l = c.before.before.before.loop in
-    let z : left t l.i ≡ 0 = rw (from_place t l.i c.before.before.loop-test.true, eq-eqb (get_or t l.i 0) 91 c.if1.true) in
-    omega arith)  -- returns
-    (λ c. omega arith)  -- add-i
+    let l = c.before.before.before.loop-i in
+    let z : left t l.i ≡ 0 = rw (from_place t l.i c.before.before.loop-i-test.true, eq-eqb (get_or t l.i 0) 91 c.if-t-i-eq91.true) in
+    omega arith)  -- returns-then-t-i-eq91
+    (λ c. omega arith)  -- overflow_add-i
     (λ c. omega arith)  -- loop-less
     (λ c.
     let t = c.before.before.before.before.args.t.now in
-    let l = c.before.before.before.loop in
-    let z : left t l.i ≡ suc (left t (l.i + 1)) = rw (from_place t l.i c.before.before.loop-test.true, ne_eqb (get_or t l.i 0) 91 c.if1.false) in
+    let l = c.before.before.before.loop-i in
+    let z : left t l.i ≡ suc (left t (l.i + 1)) = rw (from_place t l.i c.before.before.loop-i-test.true, ne_eqb (get_or t l.i 0) 91 c.if-t-i-eq91.false) in
     omega arith)  -- loop-again
     (λ c.
     let t = c.before.before.args.t.now in
-    let l = c.before.loop in
-    let z : left t l.i ≡ 0 = rw (drop_of_length-le t c.loop-test.false) in
-    omega arith)  -- returns-2
+    let l = c.before.loop-i in
+    let z : left t l.i ≡ 0 = rw (drop_of_length-le t c.loop-i-test.false) in
+    omega arith)  -- returns
     )
