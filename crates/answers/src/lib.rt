@@ -6,7 +6,7 @@ ghost use Rattle.answers.specs.Answers.{lines_word, outcome_data, outcome_number
 
 use access::Refusal;
 
-#[derive(Drop)]
+#[derive(Clone, Copy)]
 pub enum Outcome {
     Value(u64),
     Refused(Refusal),
@@ -14,7 +14,7 @@ pub enum Outcome {
 
 // The outcome, the bits that a write moved (request Q-8), and the lines after the step: IPI of core 0 and 1, bridge 0 and 1, and the line of core c
 // and pin p as bit 4 * c + p of the pins.
-#[derive(Drop)]
+#[derive(Clone, Copy)]
 pub struct Answer {
     pub outcome: Outcome,
     pub moved: u64,

@@ -28,7 +28,7 @@ pub struct Bridge {
 }
 
 // A bridge after a write, and the bits that the write moved (request Q-8).
-#[derive(Drop)]
+#[derive(Clone, Copy)]
 pub struct Applied {
     pub bridge: Bridge,
     pub moved: u64,
@@ -42,7 +42,7 @@ fn route_read(routes: [u8; 64], source: u64) -> u64
 }
 
 // Routes after a write to one of them, and the bits of that one that the write moved.
-#[derive(Drop)]
+#[derive(Clone, Copy)]
 struct Routed {
     routes: [u8; 64],
     moved: u64,
@@ -61,7 +61,7 @@ fn route_written(mut routes: [u8; 64], source: u64, mask: u64, value: u64) -> Ro
 }
 
 // What settling needs of the bridge before a change: the modes, the drives and the requests.
-#[derive(Drop)]
+#[derive(Clone, Copy)]
 pub struct Before {
     pub edge: u64,
     pub drive: u64,

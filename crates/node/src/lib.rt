@@ -21,14 +21,14 @@ pub struct Node {
 }
 
 // A node after a write, and the bits that the write moved (request Q-8).
-#[derive(Drop)]
+#[derive(Clone, Copy)]
 pub struct Applied {
     pub node: Node,
     pub moved: u64,
 }
 
 // What settling needs of the node before a step: the edge choices and the drives.
-#[derive(Drop)]
+#[derive(Clone, Copy)]
 pub struct Before {
     pub edge: u32,
     pub drive: u32,
