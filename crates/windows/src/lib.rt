@@ -16,7 +16,7 @@ pub enum Window {
 }
 
 // Where an access goes: a window, and the offset in it.
-#[derive(Drop)]
+#[derive(Clone, Copy)]
 pub struct Address {
     pub window: Window,
     pub offset: u64,
@@ -24,7 +24,7 @@ pub struct Address {
 
 // What an offset in a window names: a message register of a core, a register of the node, or the word that holds the gate and its high half.
 // The register stands first: so the cases lie alike in memory.
-#[derive(Drop)]
+#[derive(Clone, Copy)]
 pub enum Place {
     Message {
         register: ipi_registers::Register,
@@ -36,7 +36,7 @@ pub enum Place {
 }
 
 // A place, and how it may be accessed.
-#[derive(Drop)]
+#[derive(Clone, Copy)]
 pub enum Located {
     Nowhere,
     At { place: Place, access: Access },
