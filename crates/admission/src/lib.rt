@@ -11,7 +11,7 @@ use access::{Access, Refusal, Verdict};
 use windows::{Address, Located, Place, Window};
 
 // Why a bus or private access is refused, or the place that it names, and the core that a write there reaches.
-#[derive(Drop)]
+#[derive(Clone, Copy)]
 pub enum Admission {
     Refused(Refusal),
     At { place: Place, target: u64 },
