@@ -10,15 +10,11 @@ admit_spec =
     tie.close
     (tie.spec
     (λ c κs. search rules)  -- issuer-requires
-    (λ c. admission_core _ _ _ _ _ (omega (arith, c.before.issuer.ensures, c.if1.true)))  -- returns
+    (λ c. admission_core _ _ _ _ _ (omega (arith, c.issuer.ensures, c.if-issuer-gt1.true)))  -- returns-then-issuer-gt1
     (λ c κs. search rules)  -- locate-requires
-    (λ c. search rules)  -- enum_told
-    (λ c. search rules)  -- enum-known-place
+    (λ c. search rules)  -- enum_told-1
+    (λ c. search rules)  -- enum_known-place
     (λ c κs. search rules)  -- admitted-requires
-    (λ c.
-    let p = c.before.before
-    in admission_nowhere _ _ _ _ _ (omega (arith, p.before.before.issuer.ensures, p.before.if1.left)) (sym p.locate.ensures ∙ c.enum_told.given.1))  -- returns-2
-    (λ c.
-    let p = c.before.before.before.before
-    in c.admitted.ensures ∙ admission_at _ _ _ _ _ _ _ (omega (arith, p.before.before.issuer.ensures, p.before.if1.left)) (sym p.locate.ensures ∙ c.before.before.place.given.1))  -- returns-3
+    (λ c. admission_nowhere _ _ _ _ _ (omega (arith, c.issuer.ensures, c.if-issuer-gt1.false)) (sym c.locate.ensures ∙ c.in-Nowhere.is))  -- returns-in-Nowhere
+    (λ c. c.admitted.ensures ∙ admission_at _ _ _ _ _ _ _ (omega (arith, c.issuer.ensures, c.if-issuer-gt1.false)) (sym c.locate.ensures ∙ c.in-At.is))  -- returns-in-At
     )

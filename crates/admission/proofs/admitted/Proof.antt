@@ -10,13 +10,13 @@ admitted_spec =
     tie.close
     (tie.spec
     (λ c κs. search rules)  -- closed-requires
-    (λ c. search (tests, c.if1.true, ← c.before.closed.ensures))  -- returns
+    (λ c. search (tests, c.if-closed.true, ← c.closed.ensures))  -- returns-then-closed
     (λ c κs. search rules)  -- judge-requires
-    (λ c. search rules)  -- enum-known-refusal
-    (λ c. search rules)  -- enum_told
-    (λ c κs. search rules)  -- target-requires
-    (λ c κs. search rules)  -- sent-past-requires
-    (λ c. search (tests, c.if2.true, ← c.before.sent-past.ensures, ← c.before.before.target.ensures, c.before.before.before.enum_told.given.1, ← c.before.before.before.before.before.judge.ensures, c.before.before.before.before.before.before.if1.false, ← c.before.before.before.before.before.before.before.closed.ensures))  -- returns-2
-    (λ c. search (tests, c.before.refusal.given.1, ← c.before.before.before.judge.ensures, c.before.before.before.before.if1.false, ← c.before.before.before.before.before.closed.ensures))  -- returns-3
-    (λ c. search (tests, c.if2.false, ← c.before.sent-past.ensures, ← c.before.before.target.ensures, c.before.before.before.enum_told.given.1, ← c.before.before.before.before.before.judge.ensures, c.before.before.before.before.before.before.if1.false, ← c.before.before.before.before.before.before.before.closed.ensures))  -- returns-4
+    (λ c. search rules)  -- enum_known-refusal
+    (λ c. search rules)  -- enum_told-1
+    (λ c κs. search rules)  -- target-target-requires
+    (λ c κs. search rules)  -- sent_past-requires
+    (λ c. search (tests, c.if-sent_past.true, ← c.sent_past.ensures, ← c.target-target.ensures, c.in-Accepted.is, ← c.judge.ensures, c.if-closed.false, ← c.closed.ensures))  -- returns-then-sent_past
+    (λ c. search (tests, c.in-Refused.is, ← c.judge.ensures, c.if-closed.false, ← c.closed.ensures))  -- returns-in-Refused
+    (λ c. search (tests, c.if-sent_past.false, ← c.sent_past.ensures, ← c.target-target.ensures, c.in-Accepted.is, ← c.judge.ensures, c.if-closed.false, ← c.closed.ensures))  -- returns-else-sent_past
     )

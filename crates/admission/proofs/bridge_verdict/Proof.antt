@@ -9,13 +9,13 @@ unfolding bridge_refusals
 bridge_verdict_spec =
     tie.close
     (tie.spec
-    (λ c κs. search rules)  -- row-of-requires
-    (λ c. search (tests, c.if1.true, ← c.before.before.row_of.ensures))  -- returns
+    (λ c κs. search rules)  -- row_of-row-requires
+    (λ c. search (tests, c.if-row-gt63.true, ← c.row_of-row.ensures))  -- returns-then-row-gt63
     (λ c κs. search rules)  -- permits-requires
     (λ c κs. search rules)  -- fits-requires
     (λ c κs. search rules)  -- held-requires
-    (λ c. search (tests, c.if4.true, ← c.before.held.ensures, c.before.before.if3.true, ← c.before.before.before.fits2.ensures, c.before.before.before.before.if2.true, ← c.before.before.before.before.before.permits.ensures, c.before.before.before.before.before.before.if1.false, ← c.before.before.before.before.before.before.before.before.row_of.ensures))  -- returns-2
-    (λ c. search (tests, c.if4.false, ← c.before.held.ensures, c.before.before.if3.true, ← c.before.before.before.fits2.ensures, c.before.before.before.before.if2.true, ← c.before.before.before.before.before.permits.ensures, c.before.before.before.before.before.before.if1.false, ← c.before.before.before.before.before.before.before.before.row_of.ensures))  -- returns-3
-    (λ c. search (tests, c.if3.false, ← c.before.fits2.ensures, c.before.before.if2.true, ← c.before.before.before.permits.ensures, c.before.before.before.before.if1.false, ← c.before.before.before.before.before.before.row_of.ensures))  -- returns-4
-    (λ c. search (tests, c.if2.false, ← c.before.permits.ensures, c.before.before.if1.false, ← c.before.before.before.before.row_of.ensures))  -- returns-5
+    (λ c. search (tests, c.if-held.true, ← c.held.ensures, c.if-fits.true, ← c.fits.ensures, c.if-permits.true, ← c.permits.ensures, c.if-row-gt63.false, ← c.row_of-row.ensures))  -- returns-then-held
+    (λ c. search (tests, c.if-held.false, ← c.held.ensures, c.if-fits.true, ← c.fits.ensures, c.if-permits.true, ← c.permits.ensures, c.if-row-gt63.false, ← c.row_of-row.ensures))  -- returns-then-fits
+    (λ c. search (tests, c.if-fits.false, ← c.fits.ensures, c.if-permits.true, ← c.permits.ensures, c.if-row-gt63.false, ← c.row_of-row.ensures))  -- returns-then-permits
+    (λ c. search (tests, c.if-permits.false, ← c.permits.ensures, c.if-row-gt63.false, ← c.row_of-row.ensures))  -- returns
     )

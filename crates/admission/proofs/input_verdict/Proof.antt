@@ -9,6 +9,6 @@ unfolding input_refusals
 input_verdict_spec =
     tie.close
     (tie.spec
-    (λ c. rw (lt-ltb 63 c.before.args.source (omega (arith, c.if1.true))))  -- returns
-    (λ c. rw (le-ltb 63 c.before.args.source (omega (arith, c.if1.false))))  -- returns-2
+    (λ c. rw (lt-ltb 63 c.args.source (omega (arith, c.if-source-gt63.true))))  -- returns-then-source-gt63
+    (λ c. rw (le-ltb 63 c.args.source (omega (arith, c.if-source-gt63.false))))  -- returns
     )

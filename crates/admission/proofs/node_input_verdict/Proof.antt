@@ -8,7 +8,7 @@ unfolding node_input_refusals
 node_input_verdict_spec =
     tie.close
     (tie.spec
-    (λ c. search (tests, c.if2.true, c.before.if1.false))  -- returns
-    (λ c. search (tests, c.if1.true))  -- returns-2
-    (λ c. search (tests, c.if2.false, c.before.if1.false))  -- returns-3
+    (λ c. search (tests, c.in-2-to-31.if-source-lt32-own.true, c.in-2-to-31.if-source-lt2-own.false))  -- returns-in-2-to-31
+    (λ c. search (tests, c.in_default.if-source-lt2-own.true))  -- returns-in_default
+    (λ c. search (tests, c.in_default.if-source-lt32-own.false, c.in_default.if-source-lt2-own.false))  -- returns-in_default-2
     )

@@ -7,10 +7,10 @@ pub sent_past_spec : {M : Type 1} → statement M
 sent_past_spec =
     tie.close
     (tie.spec
-    (λ c. search rules)  -- enum-told
-    (λ c. search rules)  -- enum-told-2
-    (λ c. search rules)  -- enum-told-3
-    (λ c. search rules)  -- returns
-    (λ c. search rules)  -- returns-2
-    (λ c. search (tests, c.enum-told3.given.1))  -- returns-3
+    (λ c. search rules)  -- enum_told-1
+    (λ c. search rules)  -- enum_told-in-Second
+    (λ c. search rules)  -- enum_told-in-Private
+    (λ c. search rules)  -- returns-in-First
+    (λ c. search rules)  -- returns-in-Second
+    (λ c. search (tests, c.in-Private.is))  -- returns-in-Private
     )

@@ -9,13 +9,13 @@ unfolding target_at
 target_spec =
     tie.close
     (tie.spec
-    (λ c. search rules)  -- enum-known-place
+    (λ c. search rules)  -- enum_known-place
     (λ c κs. search rules)  -- target-requires
-    (λ c. search rules)  -- enum_told
-    (λ c. search rules)  -- enum-told-2
-    (λ c. search rules)  -- enum-told-3
-    (λ c. search (tests, ← c.target.ensures, c.before.before.place.given.1))  -- returns
-    (λ c. search (tests, c.enum_told.given.1))  -- returns-2
-    (λ c. search (tests, c.enum-told2.given.1))  -- returns-3
-    (λ c. search (tests, c.enum-told3.given.1))  -- returns-4
+    (λ c. search rules)  -- enum_told-1
+    (λ c. search rules)  -- enum_told-in-Gate
+    (λ c. search rules)  -- enum_told-in-GateHigh
+    (λ c. search (tests, ← c.target.ensures, c.in-Message.is))  -- returns-in-Message
+    (λ c. search (tests, c.in-Node.is))  -- returns-in-Node
+    (λ c. search (tests, c.in-Gate.is))  -- returns-in-Gate
+    (λ c. search (tests, c.in-GateHigh.is))  -- returns-in-GateHigh
     )
