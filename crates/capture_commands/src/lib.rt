@@ -13,7 +13,7 @@ use numbers::Number;
 use text::same;
 
 // The outcome of a replay.
-#[derive(Drop)]
+#[derive(Clone, Copy)]
 pub enum Outcome {
     Accepted,
     BadText,
@@ -22,7 +22,7 @@ pub enum Outcome {
 }
 
 // What the next token is, or that the text is refused.
-#[derive(Drop)]
+#[derive(Clone, Copy)]
 pub enum Mode {
     Command,
     Comment,
@@ -34,7 +34,7 @@ pub enum Mode {
 }
 
 // The last mark, if there was one, and the place of the last token, or of the first that is refused.
-#[derive(Drop)]
+#[derive(Clone, Copy)]
 pub struct State {
     pub mode: Mode,
     pub marked: bool,
@@ -43,14 +43,14 @@ pub struct State {
 }
 
 // What a token calls for: nothing, the end of a time or its beginning, inputs that are taken to a level.
-#[derive(Drop)]
+#[derive(Clone, Copy)]
 pub enum Event {
     Nothing,
     Mark(u64),
     Change { inputs: u64, level: bool },
 }
 
-#[derive(Drop)]
+#[derive(Clone, Copy)]
 pub struct Reading {
     pub state: State,
     pub event: Event,

@@ -11,7 +11,7 @@ use numbers::Number;
 use text::same;
 
 // What the next token is.
-#[derive(Drop)]
+#[derive(Clone, Copy)]
 pub enum Field {
     Command,
     Text,
@@ -24,7 +24,7 @@ pub enum Field {
 
 // The declaration under way: a wire, one bit wide; its id, by its first byte's place and its length; the form of its reference so far, and
 // the input that it names.
-#[derive(Drop)]
+#[derive(Clone, Copy)]
 pub struct Var {
     pub wire: bool,
     pub one: bool,
@@ -35,7 +35,7 @@ pub struct Var {
 }
 
 // The inputs that are declared, and the place of the last token, or of the first that is bad.
-#[derive(Drop)]
+#[derive(Clone, Copy)]
 pub struct Head {
     pub field: Field,
     pub var: Var,

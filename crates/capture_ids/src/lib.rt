@@ -17,21 +17,21 @@ use text::same;
 pub const SLOTS: usize = 16513;
 
 // What the header says of an id: whether it is declared, and the inputs that have it.
-#[derive(Drop)]
+#[derive(Clone, Copy)]
 pub struct Look {
     pub known: bool,
     pub inputs: u64,
 }
 
 // A header's state at its end, and the place of the first token after it.
-#[derive(Drop)]
+#[derive(Clone, Copy)]
 pub struct Headed {
     pub head: Head,
     pub at: usize,
 }
 
 // Whether the header ends, the state after its next token where it does not, and the place where it ends or that token does.
-#[derive(Drop)]
+#[derive(Clone, Copy)]
 struct Past {
     ended: bool,
     head: Head,

@@ -8,7 +8,7 @@ use capture_commands::Event;
 use capture_dump::{Lines, Time};
 
 // The time under way, if a mark has come.
-#[derive(Drop)]
+#[derive(Clone, Copy)]
 pub struct Times {
     pub marked: bool,
     pub time: Time,

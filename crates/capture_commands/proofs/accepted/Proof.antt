@@ -9,12 +9,12 @@ unfolding accepted
 accepted_spec =
     tie.close
     (tie.spec
-    (λ c. search rules)  -- enum_told
-    (λ c. search rules)  -- enum-told-2
-    (λ c. search rules)  -- enum-told-3
-    (λ c. search rules)  -- enum-told-4
-    (λ c. rw c.enum_told.given.1)  -- returns
-    (λ c. rw c.enum-told2.given.1)  -- returns-2
-    (λ c. rw c.enum-told3.given.1)  -- returns-3
-    (λ c. rw c.enum-told4.given.1)  -- returns-4
+    (λ c. search rules)  -- enum_told-1
+    (λ c. search rules)  -- enum_told-in-BadText
+    (λ c. search rules)  -- enum_told-in-EarlierTime
+    (λ c. search rules)  -- enum_told-in-NoRoom
+    (λ c. rw c.in-Accepted.is)  -- returns-in-Accepted
+    (λ c. rw c.in-BadText.is)  -- returns-in-BadText
+    (λ c. rw c.in-EarlierTime.is)  -- returns-in-EarlierTime
+    (λ c. rw c.in-NoRoom.is)  -- returns-in-NoRoom
     )

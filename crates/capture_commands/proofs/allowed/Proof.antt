@@ -13,6 +13,6 @@ allowed_spec =
     tie.close
     (tie.spec
     (λ c.
-    let a = c.before.before.args in
+    let a = c.args in
     ap (λ b. a.l.known && (eqb a.l.inputs 0 || b)) (either 48 49 a.c))  -- returns
     )

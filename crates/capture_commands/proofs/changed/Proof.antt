@@ -10,7 +10,7 @@ changed_spec =
     tie.close
     (tie.spec
     (λ c κs. tt)  -- allowed-requires
-    (λ c. search (tests, c.if1.true, ← c.before.allowed.ensures))  -- returns
+    (λ c. search (tests, c.if-allowed.true, ← c.allowed.ensures))  -- returns-then-allowed
     (λ c κs. tt)  -- goes-requires
-    (λ c. search (tests, ← c.goes.ensures, c.before.if1.false, ← c.before.before.allowed.ensures))  -- returns-2
+    (λ c. search (tests, ← c.goes.ensures, c.if-allowed.false, ← c.allowed.ensures))  -- returns
     )

@@ -11,16 +11,15 @@ command_spec =
     tie.close
     (tie.spec
     (λ c κs. tt)  -- first-requires
-    (λ c κs. tt)  -- parse-decimal-requires
+    (λ c κs. tt)  -- parse_decimal-requires
     (λ c κs. tt)  -- timed-requires
-    (λ c. search (tests, ← c.timed.ensures, ← c.before.parse-decimal.ensures, c.before.before.if1.true, ← c.before.before.before.first.ensures))  -- returns
-    (λ c. search rules)  -- slice-aggregate-same
+    (λ c. search (tests, ← c.timed.ensures, ← c.parse_decimal.ensures, c.if-first-eq35.true, ← c.first.ensures))  -- returns-then-first-eq35
     (λ c κs. tt)  -- same-requires
     (λ c κs. tt)  -- goes-requires
-    (λ c. search (tests, ← c.goes.ensures, c.before.if2.true, ← c.before.before.same.ensures, c.before.before.before.before.if1.false, ← c.before.before.before.before.before.first.ensures))  -- returns-2
-    (λ c κs. tt)  -- dump-word-requires
-    (λ c κs. tt)  -- goes-requires-2
-    (λ c. search (tests, ← c.goes2.ensures, c.before.if3.true, ← c.before.before.dump-word.ensures, c.before.before.before.if2.false, ← c.before.before.before.before.same.ensures, c.before.before.before.before.before.before.if1.false, ← c.before.before.before.before.before.before.before.first.ensures))  -- returns-3
+    (λ c. search (tests, ← c.goes.ensures, c.if-same.true, ← c.same.ensures, c.if-first-eq35.false, ← c.first.ensures))  -- returns-then-same
+    (λ c κs. tt)  -- dump_word-requires
+    (λ c κs. tt)  -- goes-requires-then-dump_word
+    (λ c. search (tests, ← c.goes-then-dump_word.ensures, c.if-dump_word.true, ← c.dump_word.ensures, c.if-same.false, ← c.same.ensures, c.if-first-eq35.false, ← c.first.ensures))  -- returns-then-dump_word
     (λ c κs. tt)  -- value-requires
-    (λ c. search (tests, ← c.value.ensures, c.before.if3.false, ← c.before.before.dump-word.ensures, c.before.before.before.if2.false, ← c.before.before.before.before.same.ensures, c.before.before.before.before.before.before.if1.false, ← c.before.before.before.before.before.before.before.first.ensures))  -- returns-4
+    (λ c. search (tests, ← c.value.ensures, c.if-dump_word.false, ← c.dump_word.ensures, c.if-same.false, ← c.same.ensures, c.if-first-eq35.false, ← c.first.ensures))  -- returns
     )

@@ -9,9 +9,9 @@ unfolding comment_of
 comment_spec =
     tie.close
     (tie.spec
-    (λ c κs. tt)  -- is-end-requires
+    (λ c κs. tt)  -- is_end-requires
     (λ c κs. tt)  -- goes-requires
-    (λ c. search (tests, ← c.goes.ensures, c.before.if1.true, ← c.before.before.is-end.ensures))  -- returns
+    (λ c. search (tests, ← c.goes.ensures, c.if-is_end.true, ← c.is_end.ensures))  -- returns-then-is_end
     (λ c κs. tt)  -- goes-requires-2
-    (λ c. search (tests, ← c.goes2.ensures, c.before.if1.false, ← c.before.before.is-end.ensures))  -- returns-2
+    (λ c. search (tests, ← c.goes-2.ensures, c.if-is_end.false, ← c.is_end.ensures))  -- returns
     )

@@ -10,23 +10,23 @@ unfolding id_in
 id_in_spec =
     tie.close
     (tie.spec
-    (λ c. search rules)  -- enum_told
-    (λ c κs. tt)  -- scalar-id-requires
-    (λ c. search rules)  -- enum-told-2
+    (λ c. search rules)  -- enum_told-1
+    (λ c κs. tt)  -- scalar_id-requires
+    (λ c. search rules)  -- enum_told-in-Comment
     (λ c κs. tt)  -- none-requires
-    (λ c. search rules)  -- enum-told-3
-    (λ c κs. tt)  -- scalar-id-requires-2
-    (λ c. search rules)  -- enum-told-4
-    (λ c. search rules)  -- enum-told-5
-    (λ c. search rules)  -- enum-told-6
-    (λ c κs. tt)  -- none-requires-2
-    (λ c. search rules)  -- enum-told-7
-    (λ c κs. tt)  -- none-requires-3
-    (λ c. search (tests, ← c.scalar-id.ensures, c.before.enum_told.given.1))  -- returns
-    (λ c. search (tests, ← c.none.ensures, c.before.enum-told2.given.1))  -- returns-2
-    (λ c. search (tests, ← c.scalar-id2.ensures, c.before.enum-told3.given.1))  -- returns-3
-    (λ c. search (tests, c.enum-told4.given.1))  -- returns-4
-    (λ c. search (tests, c.enum-told5.given.1))  -- returns-5
-    (λ c. search (tests, ← c.none2.ensures, c.before.enum-told6.given.1))  -- returns-6
-    (λ c. search (tests, ← c.none3.ensures, c.before.enum-told7.given.1))  -- returns-7
+    (λ c. search rules)  -- enum_told-in-Dump
+    (λ c κs. tt)  -- scalar_id-requires-in-Dump
+    (λ c. search rules)  -- enum_told-in-Id
+    (λ c. search rules)  -- enum_told-in-DumpId
+    (λ c. search rules)  -- enum_told-in-Bad
+    (λ c κs. tt)  -- none-requires-in-Bad
+    (λ c. search rules)  -- enum_told-in-Late
+    (λ c κs. tt)  -- none-requires-in-Late
+    (λ c. search (tests, ← c.scalar_id.ensures, c.in-Command.is))  -- returns-in-Command
+    (λ c. search (tests, ← c.none.ensures, c.in-Comment.is))  -- returns-in-Comment
+    (λ c. search (tests, ← c.scalar_id-in-Dump.ensures, c.in-Dump.is))  -- returns-in-Dump
+    (λ c. search (tests, c.in-Id.is))  -- returns-in-Id
+    (λ c. search (tests, c.in-DumpId.is))  -- returns-in-DumpId
+    (λ c. search (tests, ← c.none-in-Bad.ensures, c.in-Bad.is))  -- returns-in-Bad
+    (λ c. search (tests, ← c.none-in-Late.ensures, c.in-Late.is))  -- returns-in-Late
     )

@@ -10,18 +10,18 @@ unfolding judged
 judged_spec =
     tie.close
     (tie.spec
-    (λ c. search rules)  -- enum_told
-    (λ c. search rules)  -- enum-told-2
-    (λ c. search rules)  -- enum-told-3
-    (λ c. search rules)  -- enum-told-4
-    (λ c. search rules)  -- enum-told-5
-    (λ c. search rules)  -- enum-told-6
-    (λ c. search rules)  -- enum-told-7
-    (λ c. search (tests, c.enum_told.given.1))  -- returns
-    (λ c. search (tests, c.enum-told2.given.1))  -- returns-2
-    (λ c. search (tests, c.enum-told3.given.1))  -- returns-3
-    (λ c. search (tests, c.enum-told4.given.1))  -- returns-4
-    (λ c. search (tests, c.enum-told5.given.1))  -- returns-5
-    (λ c. search (tests, c.enum-told6.given.1))  -- returns-6
-    (λ c. search (tests, c.enum-told7.given.1))  -- returns-7
+    (λ c. search rules)  -- enum_told-1
+    (λ c. search rules)  -- enum_told-in-Comment
+    (λ c. search rules)  -- enum_told-in-Dump
+    (λ c. search rules)  -- enum_told-in-Id
+    (λ c. search rules)  -- enum_told-in-DumpId
+    (λ c. search rules)  -- enum_told-in-Bad
+    (λ c. search rules)  -- enum_told-in-Late
+    (λ c. search (tests, c.in-Command.is))  -- returns-in-Command
+    (λ c. search (tests, c.in-Comment.is))  -- returns-in-Comment
+    (λ c. search (tests, c.in-Dump.is))  -- returns-in-Dump
+    (λ c. search (tests, c.in-Id.is))  -- returns-in-Id
+    (λ c. search (tests, c.in-DumpId.is))  -- returns-in-DumpId
+    (λ c. search (tests, c.in-Bad.is))  -- returns-in-Bad
+    (λ c. search (tests, c.in-Late.is))  -- returns-in-Late
     )

@@ -13,11 +13,11 @@ marks_at_spec =
     (tie.spec
     (λ c κs. tt)  -- goes-requires
     (λ c.
-    let a = c.before.before.before.before.args in
-    let h : (a.b.marked && ltb a.n a.b.time) ≡ true = c.before.if1.true in
-    rw h c.goes.ensures)  -- returns
+    let a = c.args in
+    let h : (a.b.marked && ltb a.n a.b.time) ≡ true = c.if-b-n.true in
+    rw h c.goes.ensures)  -- returns-then-b-n
     (λ c.
-    let a = c.before.before.before.args in
-    let h : (a.b.marked && ltb a.n a.b.time) ≡ false = c.if1.false in
-    rw h)  -- returns-2
+    let a = c.args in
+    let h : (a.b.marked && ltb a.n a.b.time) ≡ false = c.if-b-n.false in
+    rw h)  -- returns
     )

@@ -10,7 +10,7 @@ read_spec =
     tie.close
     (tie.spec
     (λ c κs. tt)  -- refused-requires
-    (λ c. search (tests, c.if1.true, ← c.before.refused.ensures))  -- returns
-    (λ c κs. tt)  -- read-in-requires
-    (λ c. search (tests, ← c.read-in.ensures, c.before.if1.false, ← c.before.before.refused.ensures))  -- returns-2
+    (λ c. search (tests, c.if-refused.true, ← c.refused.ensures))  -- returns-then-refused
+    (λ c κs. tt)  -- read_in-requires
+    (λ c. search (tests, ← c.read_in.ensures, c.if-refused.false, ← c.refused.ensures))  -- returns
     )

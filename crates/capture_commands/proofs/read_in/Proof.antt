@@ -10,25 +10,25 @@ unfolding read_in
 read_in_spec =
     tie.close
     (tie.spec
-    (λ c. search rules)  -- enum_told
+    (λ c. search rules)  -- enum_told-1
     (λ c κs. tt)  -- command-requires
-    (λ c. search rules)  -- enum-told-2
+    (λ c. search rules)  -- enum_told-in-Comment
     (λ c κs. tt)  -- comment-requires
-    (λ c. search rules)  -- enum-told-3
+    (λ c. search rules)  -- enum_told-in-Dump
     (λ c κs. tt)  -- dumped-requires
-    (λ c. search rules)  -- enum-told-4
+    (λ c. search rules)  -- enum_told-in-Id
     (λ c κs. tt)  -- changed-requires
-    (λ c. search rules)  -- enum-told-5
-    (λ c κs. tt)  -- changed-requires-2
-    (λ c. search rules)  -- enum-told-6
+    (λ c. search rules)  -- enum_told-in-DumpId
+    (λ c κs. tt)  -- changed-requires-in-DumpId
+    (λ c. search rules)  -- enum_told-in-Bad
     (λ c κs. tt)  -- goes-requires
-    (λ c. search rules)  -- enum-told-7
-    (λ c κs. tt)  -- goes-requires-2
-    (λ c. search (tests, ← c.command.ensures, c.before.enum_told.given.1))  -- returns
-    (λ c. search (tests, ← c.comment.ensures, c.before.enum-told2.given.1))  -- returns-2
-    (λ c. search (tests, ← c.dumped.ensures, c.before.enum-told3.given.1))  -- returns-3
-    (λ c. search (tests, ← c.changed.ensures, c.before.enum-told4.given.1))  -- returns-4
-    (λ c. search (tests, ← c.changed2.ensures, c.before.enum-told5.given.1))  -- returns-5
-    (λ c. search (tests, ← c.goes.ensures, c.before.enum-told6.given.1))  -- returns-6
-    (λ c. search (tests, ← c.goes2.ensures, c.before.enum-told7.given.1))  -- returns-7
+    (λ c. search rules)  -- enum_told-in-Late
+    (λ c κs. tt)  -- goes-requires-in-Late
+    (λ c. search (tests, ← c.command.ensures, c.in-Command.is))  -- returns-in-Command
+    (λ c. search (tests, ← c.comment.ensures, c.in-Comment.is))  -- returns-in-Comment
+    (λ c. search (tests, ← c.dumped.ensures, c.in-Dump.is))  -- returns-in-Dump
+    (λ c. search (tests, ← c.changed.ensures, c.in-Id.is))  -- returns-in-Id
+    (λ c. search (tests, ← c.changed-in-DumpId.ensures, c.in-DumpId.is))  -- returns-in-DumpId
+    (λ c. search (tests, ← c.goes.ensures, c.in-Bad.is))  -- returns-in-Bad
+    (λ c. search (tests, ← c.goes-in-Late.ensures, c.in-Late.is))  -- returns-in-Late
     )

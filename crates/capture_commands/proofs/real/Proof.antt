@@ -14,15 +14,15 @@ unfolding real
 real_spec =
     tie.close
     (tie.spec
-    (λ c κs. tt)  -- first-requires
+    (λ c κs. tt)  -- first-c-requires
     (λ c κs. tt)  -- scan-requires
-    (λ c κs. tt)  -- real-form-requires
+    (λ c κs. tt)  -- real_form-requires
     (λ c.
-    let f = c.before.before.before.first in
-    let h : among (ascii "rR") (get_or c.before.before.before.before.before.args.t.now 0 0) ≡ true = ap (among (ascii "rR")) (sym f.ensures) ∙ sym (either 114 82 f.result) ∙ c.before.before.if1.true in
-    rw (h, ← c.before.scan.ensures) c.real-form.ensures)  -- returns
+    let f = c.first-c in
+    let h : among (ascii "rR") (get_or c.args.t.now 0 0) ≡ true = ap (among (ascii "rR")) (sym f.ensures) ∙ sym (either 114 82 f.result) ∙ c.if-c.true in
+    rw (h, ← c.scan.ensures) c.real_form.ensures)  -- returns-then-c
     (λ c.
-    let f = c.before.first in
-    let h : among (ascii "rR") (get_or c.before.before.before.args.t.now 0 0) ≡ false = ap (among (ascii "rR")) (sym f.ensures) ∙ sym (either 114 82 f.result) ∙ c.if1.false in
-    rw h)  -- returns-2
+    let f = c.first-c in
+    let h : among (ascii "rR") (get_or c.args.t.now 0 0) ≡ false = ap (among (ascii "rR")) (sym f.ensures) ∙ sym (either 114 82 f.result) ∙ c.if-c.false in
+    rw h)  -- returns
     )

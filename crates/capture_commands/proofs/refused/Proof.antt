@@ -10,18 +10,18 @@ unfolding refused
 refused_spec =
     tie.close
     (tie.spec
-    (λ c. search rules)  -- enum_told
-    (λ c. search rules)  -- enum-told-2
-    (λ c. search rules)  -- enum-told-3
-    (λ c. search rules)  -- enum-told-4
-    (λ c. search rules)  -- enum-told-5
-    (λ c. search rules)  -- enum-told-6
-    (λ c. search rules)  -- enum-told-7
-    (λ c. rw c.enum_told.given.1 refl)  -- returns
-    (λ c. rw c.enum-told2.given.1 refl)  -- returns-2
-    (λ c. rw c.enum-told3.given.1 refl)  -- returns-3
-    (λ c. rw c.enum-told4.given.1 refl)  -- returns-4
-    (λ c. rw c.enum-told5.given.1 refl)  -- returns-5
-    (λ c. rw c.enum-told6.given.1 refl)  -- returns-6
-    (λ c. rw c.enum-told7.given.1 refl)  -- returns-7
+    (λ c. search rules)  -- enum_told-1
+    (λ c. search rules)  -- enum_told-in-Comment
+    (λ c. search rules)  -- enum_told-in-Dump
+    (λ c. search rules)  -- enum_told-in-Id
+    (λ c. search rules)  -- enum_told-in-DumpId
+    (λ c. search rules)  -- enum_told-in-Bad
+    (λ c. search rules)  -- enum_told-in-Late
+    (λ c. rw c.in-Command.is refl)  -- returns-in-Command
+    (λ c. rw c.in-Comment.is refl)  -- returns-in-Comment
+    (λ c. rw c.in-Dump.is refl)  -- returns-in-Dump
+    (λ c. rw c.in-Id.is refl)  -- returns-in-Id
+    (λ c. rw c.in-DumpId.is refl)  -- returns-in-DumpId
+    (λ c. rw c.in-Bad.is refl)  -- returns-in-Bad
+    (λ c. rw c.in-Late.is refl)  -- returns-in-Late
     )

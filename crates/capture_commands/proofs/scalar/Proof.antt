@@ -10,11 +10,11 @@ scalar_spec =
     tie.close
     (tie.spec
     (λ c κs. tt)  -- first-requires
-    (λ c. search (tests, c.match.keys1, ← c.before.first.ensures))  -- returns
-    (λ c. search (tests, c.match.keys2, ← c.before.first.ensures))  -- returns-2
-    (λ c. search (tests, c.match.keys3, ← c.before.first.ensures))  -- returns-3
-    (λ c. search (tests, c.match.keys4, ← c.before.first.ensures))  -- returns-4
-    (λ c. search (tests, c.match.keys5, ← c.before.first.ensures))  -- returns-5
-    (λ c. search (tests, c.match.keys6, ← c.before.first.ensures))  -- returns-6
-    (λ c. search (tests, c.match.rest, ← c.before.first.ensures))  -- returns-7
+    (λ c. search (tests, c.in-48.is, ← c.first.ensures))  -- returns-in-48
+    (λ c. search (tests, c.in-49.is, ← c.first.ensures))  -- returns-in-49
+    (λ c. search (tests, c.in-120.is, ← c.first.ensures))  -- returns-in-120
+    (λ c. search (tests, c.in-88.is, ← c.first.ensures))  -- returns-in-88
+    (λ c. search (tests, c.in-122.is, ← c.first.ensures))  -- returns-in-122
+    (λ c. search (tests, c.in-90.is, ← c.first.ensures))  -- returns-in-90
+    (λ c. search (tests, c.in_default.in_default-own.rest, ← c.first.ensures))  -- returns-in_default
     )

@@ -9,7 +9,7 @@ scalar_id_spec =
     (tie.spec
     (λ c κs. tt)  -- scalar-requires
     (λ c κs. tt)  -- behind-requires
-    (λ c. search (tests, ← c.behind.ensures, c.before.if1.true, ← c.before.before.scalar.ensures))  -- returns
+    (λ c. search (tests, ← c.behind.ensures, c.if-scalar.true, ← c.scalar.ensures))  -- returns-then-scalar
     (λ c κs. tt)  -- none-requires
-    (λ c. search (tests, ← c.none.ensures, c.before.if1.false, ← c.before.before.scalar.ensures))  -- returns-2
+    (λ c. search (tests, ← c.none.ensures, c.if-scalar.false, ← c.scalar.ensures))  -- returns
     )

@@ -10,13 +10,13 @@ unfolding timed_of
 timed_spec =
     tie.close
     (tie.spec
-    (λ c. search rules)  -- enum-known-n
-    (λ c κs. tt)  -- marks-at-requires
-    (λ c. search rules)  -- enum_told
+    (λ c. search rules)  -- enum_known-n
+    (λ c κs. tt)  -- marks_at-requires
+    (λ c. search rules)  -- enum_told-1
     (λ c κs. tt)  -- goes-requires
-    (λ c. search rules)  -- enum-told-2
-    (λ c κs. tt)  -- goes-requires-2
-    (λ c. search (tests, ← c.marks-at.ensures, c.before.before.n.given.1))  -- returns
-    (λ c. search (tests, ← c.goes.ensures, c.before.enum_told.given.1))  -- returns-2
-    (λ c. search (tests, ← c.goes2.ensures, c.before.enum-told2.given.1))  -- returns-3
+    (λ c. search rules)  -- enum_told-in-Malformed
+    (λ c κs. tt)  -- goes-requires-in-Malformed
+    (λ c. search (tests, ← c.marks_at.ensures, c.in-Value.is))  -- returns-in-Value
+    (λ c. search (tests, ← c.goes.ensures, c.in-TooLarge.is))  -- returns-in-TooLarge
+    (λ c. search (tests, ← c.goes-in-Malformed.ensures, c.in-Malformed.is))  -- returns-in-Malformed
     )

@@ -12,11 +12,11 @@ value_spec =
     (λ c κs. tt)  -- scalar-requires
     (λ c κs. tt)  -- first-requires
     (λ c κs. tt)  -- changed-requires
-    (λ c. search (tests, ← c.changed.ensures, ← c.before.first.ensures, c.before.before.if1.true, ← c.before.before.before.scalar.ensures))  -- returns
+    (λ c. search (tests, ← c.changed.ensures, ← c.first.ensures, c.if-scalar.true, ← c.scalar.ensures))  -- returns-then-scalar
     (λ c κs. tt)  -- vector-requires
     (λ c κs. tt)  -- real-requires
     (λ c κs. tt)  -- goes-requires
-    (λ c. search (tests, ← c.goes.ensures, c.before.if2.true, ← c.before.before.real.ensures, ← c.before.before.before.vector.ensures, c.before.before.before.before.if1.false, ← c.before.before.before.before.before.scalar.ensures))  -- returns-2
+    (λ c. search (tests, ← c.goes.ensures, c.if-vector-real.true, ← c.real.ensures, ← c.vector.ensures, c.if-scalar.false, ← c.scalar.ensures))  -- returns-then-vector-real
     (λ c κs. tt)  -- goes-requires-2
-    (λ c. search (tests, ← c.goes2.ensures, c.before.if2.false, ← c.before.before.real.ensures, ← c.before.before.before.vector.ensures, c.before.before.before.before.if1.false, ← c.before.before.before.before.before.scalar.ensures))  -- returns-3
+    (λ c. search (tests, ← c.goes-2.ensures, c.if-vector-real.false, ← c.real.ensures, ← c.vector.ensures, c.if-scalar.false, ← c.scalar.ensures))  -- returns
     )

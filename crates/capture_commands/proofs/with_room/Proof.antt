@@ -9,13 +9,13 @@ unfolding with_room
 with_room_spec =
     tie.close
     (tie.spec
-    (λ c. search rules)  -- enum_told
-    (λ c. search rules)  -- enum-told-2
-    (λ c. search rules)  -- enum-told-3
-    (λ c. search rules)  -- enum-told-4
-    (λ c. rw (c.before.enum_told.given.1, c.if1.true))  -- returns
-    (λ c. rw (c.before.enum_told.given.1, c.if1.false))  -- returns-2
-    (λ c. rw c.enum-told2.given.1)  -- returns-3
-    (λ c. rw c.enum-told3.given.1)  -- returns-4
-    (λ c. rw c.enum-told4.given.1)  -- returns-5
+    (λ c. search rules)  -- enum_told-1
+    (λ c. search rules)  -- enum_told-in-BadText
+    (λ c. search rules)  -- enum_told-in-EarlierTime
+    (λ c. search rules)  -- enum_told-in-NoRoom
+    (λ c. rw (c.in-Accepted.is, c.if-room.true))  -- returns-then-room
+    (λ c. rw (c.in-Accepted.is, c.if-room.false))  -- returns-else-room
+    (λ c. rw c.in-BadText.is)  -- returns-in-BadText
+    (λ c. rw c.in-EarlierTime.is)  -- returns-in-EarlierTime
+    (λ c. rw c.in-NoRoom.is)  -- returns-in-NoRoom
     )

@@ -9,8 +9,8 @@ unfolding begins
 begins_spec =
     tie.close
     (tie.spec
-    (λ c κs. tt)  -- at-command-requires
+    (λ c κs. tt)  -- at_command-requires
     (λ c κs. tt)  -- declares-requires
-    (λ c. search (tests, ← c.declares.ensures, c.before.if1.true, ← c.before.before.at-command.ensures))  -- returns
-    (λ c. search (tests, c.if1.false, ← c.before.at-command.ensures))  -- returns-2
+    (λ c. search (tests, ← c.declares.ensures, c.before.if-at_command.true, ← c.before.before.at_command.ensures))  -- returns-then-at_command
+    (λ c. search (tests, c.if-at_command.false, ← c.before.at_command.ensures))  -- returns
     )

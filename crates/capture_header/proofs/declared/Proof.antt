@@ -9,9 +9,9 @@ unfolding declared
 declared_spec =
     tie.close
     (tie.spec
-    (λ c κs. tt)  -- reference-form-requires
-    (λ c κs. tt)  -- put-requires
-    (λ c. search (tests, ← c.put.ensures, c.before.if1.true, ← c.before.before.reference-form.ensures))  -- returns
+    (λ c κs. tt)  -- reference_form-requires
+    (λ c κs. tt)  -- put-seen-requires
+    (λ c. search (tests, ← c.put-seen.ensures, c.before.if-reference_form.true, ← c.before.before.reference_form.ensures))  -- returns-then-reference_form
     (λ c κs. tt)  -- goes-requires
-    (λ c. search (tests, ← c.goes.ensures, c.before.if1.false, ← c.before.before.reference-form.ensures))  -- returns-2
+    (λ c. search (tests, ← c.goes.ensures, c.before.if-reference_form.false, ← c.before.before.reference_form.ensures))  -- returns
     )

@@ -10,9 +10,8 @@ unfolding declares
 declares_spec =
     tie.close
     (tie.spec
-    (λ c. search rules)  -- slice-aggregate-same
     (λ c κs. tt)  -- same-requires
-    (λ c. search (tests, c.if1.true, ← c.before.same.ensures))  -- returns
+    (λ c. search (tests, c.if-same.true, ← c.before.same.ensures))  -- returns-then-same
     (λ c κs. tt)  -- section-requires
-    (λ c. search (tests, ← c.section.ensures, c.before.if1.false, ← c.before.before.same.ensures))  -- returns-2
+    (λ c. search (tests, ← c.section.ensures, c.before.if-same.false, ← c.before.before.same.ensures))  -- returns
     )

@@ -9,7 +9,7 @@ unfolding ends
 ends_spec =
     tie.close
     (tie.spec
-    (λ c κs. tt)  -- in-name-requires
-    (λ c κs. tt)  -- at-command-requires
-    (λ c. search (tests, ← c.at-command.ensures, ← c.before.in-name.ensures))  -- returns
+    (λ c κs. tt)  -- in_name-requires
+    (λ c κs. tt)  -- at_command-requires
+    (λ c. search (tests, ← c.at_command.ensures, ← c.before.in_name.ensures))  -- returns
     )

@@ -9,9 +9,9 @@ unfolding id_text
 id_form_spec =
     tie.close
     (tie.spec
-    (λ c κs. tt)  -- is-end-requires
-    (λ c. search (tests, c.if1.true, ← c.before.is-end.ensures))  -- returns
+    (λ c κs. tt)  -- is_end-requires
+    (λ c. search (tests, c.if-is_end.true, ← c.before.is_end.ensures))  -- returns-then-is_end
     (λ c κs. tt)  -- scan-requires
-    (λ c κs. tt)  -- id-form-requires
-    (λ c. search (tests, ← c.id-form.ensures, ← c.before.scan.ensures, c.before.before.if1.false, ← c.before.before.before.is-end.ensures))  -- returns-2
+    (λ c κs. tt)  -- id_form-requires
+    (λ c. search (tests, ← c.id_form.ensures, ← c.before.scan.ensures, c.before.before.if-is_end.false, ← c.before.before.before.is_end.ensures))  -- returns
     )

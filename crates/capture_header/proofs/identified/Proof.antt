@@ -9,9 +9,9 @@ unfolding identified
 identified_spec =
     tie.close
     (tie.spec
-    (λ c κs. tt)  -- id-form-requires
+    (λ c κs. tt)  -- id_form-requires
     (λ c κs. tt)  -- reading-requires
-    (λ c. search (tests, ← c.reading.ensures, c.before.before.if1.true, ← c.before.before.before.id-form.ensures))  -- returns
+    (λ c. search (tests, ← c.reading.ensures, c.before.before.if-id_form.true, ← c.before.before.before.id_form.ensures))  -- returns-then-id_form
     (λ c κs. tt)  -- goes-requires
-    (λ c. search (tests, ← c.goes.ensures, c.before.if1.false, ← c.before.before.id-form.ensures))  -- returns-2
+    (λ c. search (tests, ← c.goes.ensures, c.before.if-id_form.false, ← c.before.before.id_form.ensures))  -- returns
     )

@@ -9,7 +9,7 @@ unfolding input_in
 input_in_spec =
     tie.close
     (tie.spec
-    (λ c κs. tt)  -- input-of-requires
-    (λ c. search (tests, ← c.Input-of.ensures, c.before.if1.true))  -- returns
-    (λ c. search (tests, c.if1.false))  -- returns-2
+    (λ c κs. tt)  -- input_of-requires
+    (λ c. search (tests, ← c.input_of.ensures, c.before.if-v.true))  -- returns-then-v
+    (λ c. search (tests, c.if-v.false))  -- returns
     )

@@ -11,7 +11,6 @@ unfolding blank attach words placed tokens_from
 kind_spec =
     tie.close
     (tie.spec
-    (λ c. search rules)  -- slice-aggregate-index-of
-    (λ c κs. tt)  -- index-of-requires
+    (λ c κs. tt)  -- index_of-requires
     (λ c. ap (λ n. ltb n 18) c.index_of.ensures)  -- returns
     )

@@ -8,7 +8,7 @@ longer_spec =
     tie.close
     (tie.spec
     (λ c κs. tt)  -- scan-requires
-    (λ c κs. tt)  -- next-requires
-    (λ c κs. tt)  -- input-in-requires
-    (λ c. search (tests, ← c.input-in.ensures, ← c.before.next.ensures, ← c.before.before.scan.ensures))  -- returns
+    (λ c κs. tt)  -- next-form-requires
+    (λ c κs. tt)  -- input_in-input-requires
+    (λ c. search (tests, ← c.input_in-input.ensures, ← c.before.next-form.ensures, ← c.before.before.scan.ensures))  -- returns
     )

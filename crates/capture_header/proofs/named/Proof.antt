@@ -11,7 +11,7 @@ named_spec =
     (tie.spec
     (λ c κs. tt)  -- right-requires
     (λ c κs. tt)  -- reading-requires
-    (λ c. search (tests, ← c.reading.ensures, c.before.if1.true, ← c.before.before.right.ensures))  -- returns
+    (λ c. search (tests, ← c.reading.ensures, c.before.if-right.true, ← c.before.before.right.ensures))  -- returns-then-right
     (λ c κs. tt)  -- goes-requires
-    (λ c. search (tests, ← c.goes.ensures, c.before.if1.false, ← c.before.before.right.ensures))  -- returns-2
+    (λ c. search (tests, ← c.goes.ensures, c.before.if-right.false, ← c.before.before.right.ensures))  -- returns
     )

@@ -9,8 +9,8 @@ unfolding head_next
 next_spec =
     tie.close
     (tie.spec
-    (λ c κs. tt)  -- bad-field-requires
-    (λ c. search (tests, c.if1.true, ← c.before.bad-field.ensures))  -- returns
-    (λ c κs. tt)  -- next-at-requires
-    (λ c. search (tests, ← c.next-at.ensures, c.before.if1.false, ← c.before.before.bad-field.ensures))  -- returns-2
+    (λ c κs. tt)  -- bad_field-requires
+    (λ c. search (tests, c.if-bad_field.true, ← c.before.bad_field.ensures))  -- returns-then-bad_field
+    (λ c κs. tt)  -- next_at-next-requires
+    (λ c. search (tests, ← c.next_at-next.ensures, c.before.if-bad_field.false, ← c.before.before.bad_field.ensures))  -- returns
     )

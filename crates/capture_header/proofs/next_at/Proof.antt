@@ -10,25 +10,25 @@ unfolding next_at
 next_at_spec =
     tie.close
     (tie.spec
-    (λ c. search rules)  -- enum_told
+    (λ c. search rules)  -- enum_told-1
     (λ c κs. tt)  -- opened-requires
-    (λ c. search rules)  -- enum-told-2
+    (λ c. search rules)  -- enum_told-in-Text
     (λ c κs. tt)  -- skipped-requires
-    (λ c. search rules)  -- enum-told-3
+    (λ c. search rules)  -- enum_told-in-Kind
     (λ c κs. tt)  -- typed-requires
-    (λ c. search rules)  -- enum-told-4
-    (λ c κs. tt)  -- parse-decimal-requires
+    (λ c. search rules)  -- enum_told-in-Size
+    (λ c κs. tt)  -- parse_decimal-requires
     (λ c κs. tt)  -- sized-requires
-    (λ c. search rules)  -- enum-told-5
+    (λ c. search rules)  -- enum_told-in-Id
     (λ c κs. tt)  -- identified-requires
-    (λ c. search rules)  -- enum-told-6
+    (λ c. search rules)  -- enum_told-in-Name
     (λ c κs. tt)  -- referred-requires
-    (λ c. search rules)  -- enum-told-7
-    (λ c. search (tests, ← c.opened.ensures, c.before.enum_told.given.1))  -- returns
-    (λ c. search (tests, ← c.skipped.ensures, c.before.enum-told2.given.1))  -- returns-2
-    (λ c. search (tests, ← c.type-inv.ensures, c.before.enum-told3.given.1))  -- returns-3
-    (λ c. search (tests, ← c.sized.ensures, ← c.before.parse-decimal.ensures, c.before.before.enum-told4.given.1))  -- returns-4
-    (λ c. search (tests, ← c.identified.ensures, c.before.enum-told5.given.1))  -- returns-5
-    (λ c. search (tests, ← c.referred.ensures, c.before.enum-told6.given.1))  -- returns-6
-    (λ c. search (tests, c.enum-told7.given.1))  -- returns-7
+    (λ c. search rules)  -- enum_told-in-Bad
+    (λ c. search (tests, ← c.opened.ensures, c.before.in-Command.is))  -- returns-in-Command
+    (λ c. search (tests, ← c.skipped.ensures, c.before.in-Text.is))  -- returns-in-Text
+    (λ c. search (tests, ← c.typed.ensures, c.before.in-Kind.is))  -- returns-in-Kind
+    (λ c. search (tests, ← c.sized.ensures, ← c.before.parse_decimal.ensures, c.before.before.in-Size.is))  -- returns-in-Size
+    (λ c. search (tests, ← c.identified.ensures, c.before.in-Id.is))  -- returns-in-Id
+    (λ c. search (tests, ← c.referred.ensures, c.before.in-Name.is))  -- returns-in-Name
+    (λ c. search (tests, c.in-Bad.is))  -- returns-in-Bad
     )

@@ -10,10 +10,9 @@ unfolding opened
 opened_spec =
     tie.close
     (tie.spec
-    (λ c. search rules)  -- slice-aggregate-same
     (λ c κs. tt)  -- same-requires
     (λ c κs. tt)  -- goes-requires
-    (λ c. search (tests, ← c.goes.ensures, c.before.if1.true, ← c.before.before.same.ensures))  -- returns
+    (λ c. search (tests, ← c.goes.ensures, c.before.if-same.true, ← c.before.before.same.ensures))  -- returns-then-same
     (λ c κs. tt)  -- goes-requires-2
-    (λ c. search (tests, ← c.goes2.ensures, c.before.if1.false, ← c.before.before.same.ensures))  -- returns-2
+    (λ c. search (tests, ← c.goes-2.ensures, c.before.if-same.false, ← c.before.before.same.ensures))  -- returns
     )

@@ -9,10 +9,10 @@ unfolding referred
 referred_spec =
     tie.close
     (tie.spec
-    (λ c κs. tt)  -- is-end-requires
+    (λ c κs. tt)  -- is_end-requires
     (λ c κs. tt)  -- declared-requires
-    (λ c. search (tests, ← c.declared.ensures, c.before.if1.true, ← c.before.before.is-end.ensures))  -- returns
+    (λ c. search (tests, ← c.declared.ensures, c.before.if-is_end.true, ← c.before.before.is_end.ensures))  -- returns-then-is_end
     (λ c κs. tt)  -- longer-requires
     (λ c κs. tt)  -- named-requires
-    (λ c. search (tests, ← c.named.ensures, ← c.before.longer.ensures, c.before.before.before.if1.false, ← c.before.before.before.before.is-end.ensures))  -- returns-2
+    (λ c. search (tests, ← c.named.ensures, ← c.before.longer.ensures, c.before.before.before.if-is_end.false, ← c.before.before.before.before.is_end.ensures))  -- returns
     )

@@ -10,13 +10,13 @@ unfolding sized_of
 sized_spec =
     tie.close
     (tie.spec
-    (λ c. search rules)  -- enum-known-n
-    (λ c κs. tt)  -- size-is-requires
-    (λ c. search rules)  -- enum_told
-    (λ c κs. tt)  -- size-is-requires-2
-    (λ c. search rules)  -- enum-told-2
+    (λ c. search rules)  -- enum_known-n
+    (λ c κs. tt)  -- size_is-requires
+    (λ c. search rules)  -- enum_told-1
+    (λ c κs. tt)  -- size_is-requires-in-TooLarge
+    (λ c. search rules)  -- enum_told-in-Malformed
     (λ c κs. tt)  -- goes-requires
-    (λ c. search (tests, ← c.size-is.ensures, c.before.before.n.given.1))  -- returns
-    (λ c. search (tests, ← c.size-is2.ensures, c.before.enum_told.given.1))  -- returns-2
-    (λ c. search (tests, ← c.goes.ensures, c.before.enum-told2.given.1))  -- returns-3
+    (λ c. search (tests, ← c.size_is.ensures, c.in-Value.is))  -- returns-in-Value
+    (λ c. search (tests, ← c.size_is-in-TooLarge.ensures, c.before.in-TooLarge.is))  -- returns-in-TooLarge
+    (λ c. search (tests, ← c.goes.ensures, c.before.in-Malformed.is))  -- returns-in-Malformed
     )

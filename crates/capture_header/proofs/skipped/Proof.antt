@@ -9,9 +9,9 @@ unfolding skipped
 skipped_spec =
     tie.close
     (tie.spec
-    (λ c κs. tt)  -- is-end-requires
+    (λ c κs. tt)  -- is_end-requires
     (λ c κs. tt)  -- goes-requires
-    (λ c. rw (sym c.before.before.is-end.ensures ∙ c.before.if1.true) c.goes.ensures)  -- returns
+    (λ c. rw (sym c.before.before.is_end.ensures ∙ c.before.if-is_end.true) c.goes.ensures)  -- returns-then-is_end
     (λ c κs. tt)  -- goes-requires-2
-    (λ c. rw (sym c.before.before.is-end.ensures ∙ c.before.if1.false) c.goes2.ensures)  -- returns-2
+    (λ c. rw (sym c.before.before.is_end.ensures ∙ c.before.if-is_end.false) c.goes-2.ensures)  -- returns
     )

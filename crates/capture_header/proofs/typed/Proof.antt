@@ -14,15 +14,14 @@ typed_spec =
     tie.close
     (tie.spec
     (λ c κs. tt)  -- kind-requires
-    (λ c. search rules)  -- slice-aggregate-same
-    (λ c κs. tt)  -- same-requires
+    (λ c κs. tt)  -- same-wire-requires
     (λ c κs. tt)  -- reading-requires
     (λ c.
-    let k : one_of types c.before.before.before.before.before.before.args.t.now ≡ true = sym c.before.before.before.before.kind.ensures ∙ c.before.before.before.if1.true in
-    let w : c.before.same.result ≡ same_of c.before.before.before.before.before.before.args.t.now wire_word = c.before.same.ensures in
-    rw (k, ← w) c.reading.ensures)  -- returns
+    let k : one_of types c.before.before.before.before.before.before.args.t.now ≡ true = sym c.before.before.before.before.kind.ensures ∙ c.before.before.before.if-kind.true in
+    let w : c.before.same-wire.result ≡ same_of c.before.before.before.before.before.before.args.t.now wire_word = c.before.same-wire.ensures in
+    rw (k, ← w) c.reading.ensures)  -- returns-then-kind
     (λ c κs. tt)  -- goes-requires
     (λ c.
-    let k : one_of types c.before.before.before.before.args.t.now ≡ false = sym c.before.before.kind.ensures ∙ c.before.if1.false in
-    rw k c.goes.ensures)  -- returns-2
+    let k : one_of types c.before.before.before.before.args.t.now ≡ false = sym c.before.before.kind.ensures ∙ c.before.if-kind.false in
+    rw k c.goes.ensures)  -- returns
     )

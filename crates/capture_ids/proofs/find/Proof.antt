@@ -9,10 +9,10 @@ use Rattle.capture_ids.proofs.Ids.{fold_stops, fold_goes, look_none, look_one}
 use Rattle.capture_ids.proofs.find.Statement.{statement}
 use Rattle.capture_ids.proofs.find.Tie as tie
 
-abbrev invariant_loop : tie.invariant_loop
+abbrev invariant_loop : tie.invariant-loop-h
 invariant_loop s x look₀ h₀ at₀ look h at = look_from x look (left s h at).variables ≡ look_of (header_of s).variables x
 
-abbrev decreases_loop : tie.decreases_loop
+abbrev decreases_loop : tie.decreases-loop-h
 decreases_loop s x look₀ h₀ at₀ look h at = length s - at
 
 pub find_spec : {M : Type 1} → statement M
@@ -21,17 +21,17 @@ find_spec =
     (tie.spec
     invariant_loop
     decreases_loop
-    (λ c κs. tt)  -- start-requires
-    (λ c. rw c.start.ensures)  -- loop-holds
-    (λ c κs. tt)  -- pass-requires
+    (λ c κs. tt)  -- start-h-requires
+    (λ c. rw c.start-h.ensures)  -- loop-holds
+    (λ c κs. tt)  -- pass-past-requires
     (λ c.
     let a = c.before.before.before.before.before.before.args in
-    let l = c.before.before.loop in
-    fold_stops (look_from a.x.now) (look_none a.x.now) (look_one a.x.now) a.s.now l.look l.h l.at _ l.invariant _ (c.before.pass.ensures.stops c.if1.true))  -- returns
-    (λ c κs. tt)  -- noted-requires
-    (λ c. omega (arith, c.before.before.before.pass.ensures.goes c.before.before.if1.false))  -- loop-less
+    let l = c.before.before.loop-h in
+    fold_stops (look_from a.x.now) (look_none a.x.now) (look_one a.x.now) a.s.now l.look l.h l.at _ l.invariant _ (c.before.pass-past.ensures.stops c.if-past.true))  -- returns-then-past
+    (λ c κs. tt)  -- noted-look-requires
+    (λ c. omega (arith, c.before.before.before.pass-past.ensures.goes c.before.before.if-past.false))  -- loop-less
     (λ c.
     let a = c.before.before.before.before.before.before.before.before.args in
-    let l = c.before.before.before.before.loop in
-    fold_goes (look_from a.x.now) (look_none a.x.now) (look_one a.x.now) a.s.now l.look l.h l.at _ l.invariant _ _ (c.before.before.before.pass.ensures.goes c.before.before.if1.false) c.noted.result c.noted.ensures)  -- loop-again
+    let l = c.before.before.before.before.loop-h in
+    fold_goes (look_from a.x.now) (look_none a.x.now) (look_one a.x.now) a.s.now l.look l.h l.at _ l.invariant _ _ (c.before.before.before.pass-past.ensures.goes c.before.before.if-past.false) c.noted-look.result c.noted-look.ensures)  -- loop-again
     )

@@ -11,14 +11,14 @@ use Rattle.capture_ids.proofs.Ids.{headed_stops, headed_goes, fold_stops, fold_g
 use Rattle.capture_ids.proofs.index.Statement.{statement}
 use Rattle.capture_ids.proofs.index.Tie as tie
 
-abbrev invariant_loop : tie.invariant_loop
+abbrev invariant_loop : tie.invariant-loop-past
 invariant_loop s inputs₀ known₀ h₀ at₀ inputs known h at =
     (((left s h at).head ≡ (header_of s).head) × ((left s h at).rest ≡ (header_of s).rest))
     × ((inputs_noted inputs (left s h at).variables ≡ inputs_noted inputs₀ (header_of s).variables)
     × (known_noted known (left s h at).variables ≡ known_noted known₀ (header_of s).variables))
     × ((length inputs ≡ length inputs₀) × (length known ≡ length known₀))
 
-abbrev decreases_loop : tie.decreases_loop
+abbrev decreases_loop : tie.decreases-loop-past
 decreases_loop s inputs₀ known₀ h₀ at₀ inputs known h at = length s - at
 
 pub index_spec : {M : Type 1} → statement M
@@ -27,15 +27,15 @@ index_spec =
     (tie.spec
     invariant_loop
     decreases_loop
-    (λ c κs. tt)  -- start-requires
-    (λ c. rw c.start.ensures ((refl, refl), (refl, refl), (refl, refl)))  -- loop-holds
-    (λ c κs. tt)  -- pass-requires
-    (λ c. c.before.before.loop.invariant.2.0)  -- same-length
-    (λ c. c.before.before.loop.invariant.2.1)  -- same-length-2
+    (λ c κs. tt)  -- start-h-requires
+    (λ c. rw c.start-h.ensures ((refl, refl), (refl, refl), (refl, refl)))  -- loop-holds
+    (λ c κs. tt)  -- pass-past-requires
+    (λ c. c.before.before.loop-past.invariant.2.0)  -- shape_of-inputs-then-past
+    (λ c. c.before.before.loop-past.invariant.2.1)  -- shape_of-known-then-past
     (λ c.
     let a = c.before.before.before.before.before.before.before.args in
-    let l = c.before.before.loop in
-    let e = c.before.pass.ensures.stops c.if1.true in
+    let l = c.before.before.loop-past in
+    let e = c.before.pass-past.ensures.stops c.if-past.true in
     let h = headed_stops a.s.now l.h l.at l.invariant.0.0 l.invariant.0.1 _ e in (
       h.0,
       (
@@ -45,13 +45,13 @@ index_spec =
           fold_stops known_noted known_none known_one a.s.now l.known l.h l.at _ l.invariant.1.1 _ e,
         ),
       ),
-    ))  -- returns
+    ))  -- returns-then-past
     (λ c κs. tt)  -- note-requires
-    (λ c. omega (arith, c.before.before.before.before.before.before.before.before.before.pass.ensures.goes c.before.before.before.before.before.before.before.before.if1.false))  -- loop-less
+    (λ c. omega (arith, c.before.before.before.before.before.before.before.before.before.pass-past.ensures.goes c.before.before.before.before.before.before.before.before.if-past.false))  -- loop-less
     (λ c.
     let a = c.before.before.before.before.before.before.before.before.before.before.before.before.before.before.before.args in
-    let l = c.before.before.before.before.before.before.before.before.before.before.loop in
-    let e = c.before.before.before.before.before.before.before.before.before.pass.ensures.goes c.before.before.before.before.before.before.before.before.if1.false in
+    let l = c.before.before.before.before.before.before.before.before.before.before.loop-past in
+    let e = c.before.before.before.before.before.before.before.before.before.pass-past.ensures.goes c.before.before.before.before.before.before.before.before.if-past.false in
     let n = c.before.before.before.before.note in (
       headed_goes a.s.now l.h l.at l.invariant.0.0 l.invariant.0.1 _ _ e,
       (

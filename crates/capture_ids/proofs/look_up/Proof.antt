@@ -21,8 +21,8 @@ inside k n m e =
     let q = both (ltb k n) (ltb k m) p.1 in
     (ltb-true k slots p.0, ltb-true k n q.0, ltb-true k m q.1)
 
-has : (c : tie.Then1) → (c.before.slot.result < slots) × (c.before.slot.result < length c.before.before.before.before.before.before.args.inputs.now) × (c.before.slot.result < length c.before.before.before.before.before.before.args.known.now)
-has c = inside c.before.slot.result (length c.before.before.before.before.before.before.args.inputs.now) (length c.before.before.before.before.before.before.args.known.now) c.if1.true
+has : (c : tie.Then-k-inputs) → (c.before.slot-k.result < slots) × (c.before.slot-k.result < length c.before.before.before.before.before.before.args.inputs.now) × (c.before.slot-k.result < length c.before.before.before.before.before.before.args.known.now)
+has c = inside c.before.slot-k.result (length c.before.before.before.before.before.before.args.inputs.now) (length c.before.before.before.before.before.before.args.known.now) c.if-k-inputs.true
 
 abbrev look : Bool → ℕ → Look
 look known inputs = record { known = known; inputs = inputs }
@@ -43,16 +43,16 @@ pub look_up_spec : {M : Type 1} → statement M
 look_up_spec =
     tie.close
     (tie.spec
-    (λ c κs. search rules)  -- slot-requires
-    (λ c. omega (arith, has c))  -- mul-t13
-    (λ c. (has c.before).2)  -- shared-slice-read-t15
-    (λ c. omega (arith, has c.before))  -- mul-t17
-    (λ c. (has c.before.before).1)  -- shared-slice-read-t19
+    (λ c κs. search rules)  -- slot-k-requires
+    (λ c. omega (arith, has c))  -- offset_bounds-known-k
+    (λ c. (has c.before).2)  -- bounds-known-k
+    (λ c. omega (arith, has c.before))  -- offset_bounds-inputs-k
+    (λ c. (has c.before.before).1)  -- bounds-inputs-k
     (λ c.
     let a = c.before.before.before.before.before.before.before.before.args in
-    slotted a.s.now a.inputs.now a.known.now a.x.now c.before.before.before.slot.result c.before.before.before.slot.ensures c.before.before.if1.true)  -- returns
+    slotted a.s.now a.inputs.now a.known.now a.x.now c.before.before.before.slot-k.result c.before.before.before.slot-k.ensures c.before.before.if-k-inputs.true)  -- returns-then-k-inputs
     (λ c κs. search rules)  -- find-requires
     (λ c.
     let a = c.before.before.before.before.before.before.before.args in
-    c.find.ensures ∙ unslotted a.s.now a.inputs.now a.known.now a.x.now c.before.before.slot.result c.before.before.slot.ensures c.before.if1.false)  -- returns-2
+    c.find.ensures ∙ unslotted a.s.now a.inputs.now a.known.now a.x.now c.before.before.slot-k.result c.before.before.slot-k.ensures c.before.if-k-inputs.false)  -- returns
     )

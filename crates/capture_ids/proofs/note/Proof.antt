@@ -34,19 +34,19 @@ note_spec =
     (tie.spec
     (λ c κs. search rules)  -- ends-requires
     (λ c κs. search rules)  -- part-requires
-    (λ c κs. search rules)  -- slot-requires
-    (λ c κs. search rules)  -- note-inputs-requires
-    (λ c κs. search rules)  -- note-known-requires
-    (λ c. search rules)  -- same-length
-    (λ c. search rules)  -- same-length-2
+    (λ c κs. search rules)  -- slot-k-requires
+    (λ c κs. search rules)  -- note_inputs-requires
+    (λ c κs. search rules)  -- note_known-requires
+    (λ c. search rules)  -- shape_of-inputs
+    (λ c. search rules)  -- shape_of-known
     (λ c.
     let a = c.before.before.before.before.before.before.before.before.before.before.before.before.before.before.before.before.args in
-    let e : ends a.before.field a.after.field ≡ true = sym c.before.before.before.before.before.before.before.before.before.before.before.before.ends.ensures ∙ c.before.before.before.before.before.before.before.before.before.before.before.if1.true in
-    let k = c.before.before.before.before.before.before.before.before.slot.ensures ∙ ap slot_of c.before.before.before.before.before.before.before.before.before.part.ensures in (
-      c.before.before.before.before.before.before.note-inputs.ensures ∙ ap (λ n. inputs_at a.inputs.now n a.before.var.input) k ∙ inputs_noted_lem a.s.now a.before a.after a.inputs.now a.known.now e,
-      c.before.before.note-known.ensures ∙ ap (known_at a.known.now) k ∙ known_noted_lem a.s.now a.before a.after a.inputs.now a.known.now e,
-    ))  -- returns
+    let e : ends a.before.field a.after.field ≡ true = sym c.before.before.before.before.before.before.before.before.before.before.before.before.ends.ensures ∙ c.before.before.before.before.before.before.before.before.before.before.before.if-ends.true in
+    let k = c.before.before.before.before.before.before.before.before.slot-k.ensures ∙ ap slot_of c.before.before.before.before.before.before.before.before.before.part.ensures in (
+      c.before.before.before.before.before.before.note_inputs.ensures ∙ ap (λ n. inputs_at a.inputs.now n a.before.var.input) k ∙ inputs_noted_lem a.s.now a.before a.after a.inputs.now a.known.now e,
+      c.before.before.note_known.ensures ∙ ap (known_at a.known.now) k ∙ known_noted_lem a.s.now a.before a.after a.inputs.now a.known.now e,
+    ))  -- returns-then-ends
     (λ c.
     let a = c.before.before.before.before.before.args in
-    nothing a.s.now a.before a.after a.inputs.now a.known.now (sym c.before.ends.ensures ∙ c.if1.false))  -- returns-2
+    nothing a.s.now a.before a.after a.inputs.now a.known.now (sym c.before.ends.ensures ∙ c.if-ends.false))  -- returns-else-ends
     )

@@ -12,12 +12,12 @@ unfolding inputs_at
 note_inputs_spec =
     tie.close
     (tie.spec
-    (λ c. search rules)  -- mul-put
-    (λ c. search rules)  -- slice-read-put
+    (λ c. search rules)  -- offset_bounds-table-k
+    (λ c. search rules)  -- bounds-table-k
     (λ c κs. search rules)  -- put-requires
-    (λ c. search rules)  -- mul-table
-    (λ c. search rules)  -- slice-write-table
-    (λ c. search rules)  -- same-length
-    (λ c. ap (set c.before.before.before.before.args.table.now c.before.before.before.before.args.k) c.put.ensures)  -- returns
-    (λ c. sym (set_out c.before.before.args.table.now c.before.before.args.k _ c.if1.false))  -- returns-2
+    (λ c. search rules)  -- offset_bounds-table-k-then-k-table
+    (λ c. search rules)  -- bounds-table-k-then-k-table
+    (λ c. search rules)  -- shape_of-table
+    (λ c. ap (set c.before.before.before.before.args.table.now c.before.before.before.before.args.k) c.put.ensures)  -- returns-then-k-table
+    (λ c. sym (set_out c.before.before.args.table.now c.before.before.args.k _ c.if-k-table.false))  -- returns-else-k-table
     )

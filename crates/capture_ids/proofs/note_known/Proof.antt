@@ -11,9 +11,9 @@ unfolding known_at
 note_known_spec =
     tie.close
     (tie.spec
-    (λ c. search rules)  -- mul-table
-    (λ c. search rules)  -- slice-write-table
-    (λ c. search rules)  -- same-length
-    (λ c. refl)  -- returns
-    (λ c. sym (set_out c.before.args.table.now c.before.args.k 1 c.if1.false))  -- returns-2
+    (λ c. search rules)  -- offset_bounds-table-k
+    (λ c. search rules)  -- bounds-table-k
+    (λ c. search rules)  -- shape_of-table
+    (λ c. refl)  -- returns-then-k-table
+    (λ c. sym (set_out c.before.args.table.now c.before.args.k 1 c.if-k-table.false))  -- returns-else-k-table
     )

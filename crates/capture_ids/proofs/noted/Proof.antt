@@ -44,11 +44,11 @@ noted_spec =
     (λ c κs. search rules)  -- ends-requires
     (λ c κs. search rules)  -- part-requires
     (λ c κs. search rules)  -- same-requires
-    (λ c κs. search rules)  -- put-requires
+    (λ c κs. search rules)  -- put-inputs-requires
     (λ c.
     let a = c.before.before.before.before.before.before.before.before.args in
-    met a.s.now a.x.now a.look a.before a.after c.before.before.before.before.ends.result c.before.before.same.result _ c.before.before.before.before.ends.ensures c.before.before.same.ensures c.before.before.before.part.ensures c.before.if1.true c.put.result c.put.ensures)  -- returns
+    met a.s.now a.x.now a.look a.before a.after c.before.before.before.before.ends.result c.before.before.same.result _ c.before.before.before.before.ends.ensures c.before.before.same.ensures c.before.before.before.part.ensures c.before.if-ends-same.true c.put-inputs.result c.put-inputs.ensures)  -- returns-then-ends-same
     (λ c.
     let a = c.before.before.before.before.before.before.before.args in
-    other a.s.now a.x.now a.look a.before a.after c.before.before.before.ends.result c.before.same.result _ c.before.before.before.ends.ensures c.before.same.ensures c.before.before.part.ensures c.if1.false)  -- returns-2
+    other a.s.now a.x.now a.look a.before a.after c.before.before.before.ends.result c.before.same.result _ c.before.before.before.ends.ensures c.before.same.ensures c.before.before.part.ensures c.if-ends-same.false)  -- returns
     )

@@ -17,19 +17,19 @@ pub part_spec : {M : Type 1} → statement M
 part_spec =
     tie.close
     (tie.spec
-    (λ c. search rules)  -- slice-aggregate-result
-    (λ c. fewer c.before.before.args.s.now c.before.before.args.from c.before.before.args.size 0 (omega arith) (omega arith))  -- returns
-    (λ c. search rules)  -- sub-if2
-    (λ c. search rules)  -- sub-result
-    (λ c. search rules)  -- part-result-start
-    (λ c. search rules)  -- part-result-end
-    (λ c. fewer c.before.before.before.args.s.now c.before.before.before.args.from c.before.before.before.args.size (length c.before.before.before.args.s.now - c.before.before.before.args.from) (omega arith) (omega arith))  -- returns-2
-    (λ c. search rules)  -- add-result
-    (λ c. search rules)  -- sub-result-2
-    (λ c. search rules)  -- part-result-start-2
-    (λ c. search rules)  -- part-result-end-2
+    (λ c. search rules)  -- slice_bounds-result-end
+    (λ c. fewer c.args.s.now c.args.from c.args.size 0 (omega arith) (omega arith))  -- returns-then-s-from
+    (λ c. search rules)  -- overflow_sub-s
+    (λ c. search rules)  -- slice_bounds-result-count
+    (λ c. search rules)  -- slice_bounds-result-start
+    (λ c. search rules)  -- slice_bounds-result-end-then-s-from-2
+    (λ c. fewer c.before.before.before.args.s.now c.before.before.before.args.from c.before.before.before.args.size (length c.before.before.before.args.s.now - c.before.before.before.args.from) (omega arith) (omega arith))  -- returns-then-s-from-2
+    (λ c. search rules)  -- overflow_add-result
+    (λ c. search rules)  -- slice_bounds-result-count-2
+    (λ c. search rules)  -- slice_bounds-result-start-2
+    (λ c. search rules)  -- slice_bounds-result-end-2
     (λ c.
     let a = c.before.before.before.args in
     let e : a.from + a.size - a.from ≡ a.size = omega arith in
-    ap (λ n. take n (drop a.from a.s.now)) e)  -- returns-3
+    ap (λ n. take n (drop a.from a.s.now)) e)  -- returns
     )

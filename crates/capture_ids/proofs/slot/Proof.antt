@@ -36,13 +36,13 @@ pub slot_spec : {M : Type 1} → statement M
 slot_spec =
     tie.close
     (tie.spec
-    (λ c. search rules)  -- shared-slice-read-slot-of-one
-    (λ c κs. search rules)  -- slot-of-one-requires
-    (λ c. search rules)  -- shared-slice-read-slot-of-two
-    (λ c. search rules)  -- shared-slice-read-slot-of-two-2
-    (λ c κs. search rules)  -- slot-of-two-requires
-    (λ c. none c.before.before.args.x.now c.match.keys1)  -- returns
-    (λ c. c.slot-of-one.ensures ∙ one c.before.before.before.before.args.x.now c.before.before.match.keys2)  -- returns-2
-    (λ c. c.slot-of-two.ensures ∙ two c.before.before.before.before.before.args.x.now c.before.before.before.match.keys3)  -- returns-3
-    (λ c. longer c.before.before.args.x.now c.match.rest.0.0.1 c.match.rest.0.1 c.match.rest.1)  -- returns-4
+    (λ c. search rules)  -- bounds-x-0
+    (λ c κs. search rules)  -- slot_of_one-requires
+    (λ c. search rules)  -- bounds-x-0-in-2
+    (λ c. search rules)  -- bounds-x-1
+    (λ c κs. search rules)  -- slot_of_two-requires
+    (λ c. none c.before.before.args.x.now c.in-0.is)  -- returns-in-0
+    (λ c. c.slot_of_one.ensures ∙ one c.before.before.before.before.args.x.now c.before.before.in-1.is)  -- returns-in-1
+    (λ c. c.slot_of_two.ensures ∙ two c.before.before.before.before.before.args.x.now c.before.before.before.in-2.is)  -- returns-in-2
+    (λ c. longer c.before.before.args.x.now c.in_default.in_default-own.rest.0.0.1 c.in_default.in_default-own.rest.0.1 c.in_default.in_default-own.rest.1)  -- returns-in_default
     )

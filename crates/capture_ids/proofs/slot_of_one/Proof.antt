@@ -10,7 +10,7 @@ unfolding slot_of
 slot_of_one_spec =
     tie.close
     (tie.spec
-    (λ c. search rules)  -- add-result
-    (λ c. rw (lt-ltb _ 128 c.if1.true))  -- returns
-    (λ c. rw (le-ltb _ 128 c.if1.false))  -- returns-2
+    (λ c. search rules)  -- overflow_add-result
+    (λ c. rw (lt-ltb _ 128 c.if-c-lt128.true))  -- returns-then-c-lt128
+    (λ c. rw (le-ltb _ 128 c.if-c-lt128.false))  -- returns-else-c-lt128
     )

@@ -9,9 +9,9 @@ unfolding slot_of
 slot_of_two_spec =
     tie.close
     (tie.spec
-    (λ c. search rules)  -- mul-result
-    (λ c. search rules)  -- add-result
-    (λ c. search rules)  -- add-result-2
-    (λ c. rw c.if1.true)  -- returns
-    (λ c. rw c.if1.false)  -- returns-2
+    (λ c. search rules)  -- overflow_mul-result
+    (λ c. search rules)  -- overflow_add-result
+    (λ c. search rules)  -- overflow_add-result-then-c-d
+    (λ c. rw c.if-c-d.true)  -- returns-then-c-d
+    (λ c. rw c.if-c-d.false)  -- returns
     )

@@ -10,10 +10,10 @@ unfolding ends_of
 ends_spec =
     tie.close
     (tie.spec
-    (λ c. search rules)  -- enum_told
-    (λ c. search rules)  -- enum-known-e
-    (λ c. search rules)  -- enum-told-2
-    (λ c. search (tests, c.enum_told.given.1))  -- returns
-    (λ c. search (tests, c.before.before.before.before.e.given.1))  -- returns-2
-    (λ c. search (tests, c.enum-told2.given.1))  -- returns-3
+    (λ c. search rules)  -- enum_told-1
+    (λ c. search rules)  -- enum_known-e
+    (λ c. search rules)  -- enum_told-in-Change
+    (λ c. search (tests, c.in-Nothing.is))  -- returns-in-Nothing
+    (λ c. search (tests, c.in-Mark.is))  -- returns-in-Mark
+    (λ c. search (tests, c.in-Change.is))  -- returns-in-Change
     )

@@ -10,9 +10,9 @@ unfolding marked_of
 marked_spec =
     tie.close
     (tie.spec
-    (λ c κs. search rules)  -- new-time-requires
-    (λ c. search (tests, ← c.new-time.ensures, c.before.if2.true, c.before.before.before.before.if1.true))  -- returns
-    (λ c. search (tests, c.if2.false, c.before.before.before.if1.true))  -- returns-2
-    (λ c κs. search rules)  -- new-time-requires-2
-    (λ c. search (tests, ← c.new-time2.ensures, c.before.if1.false))  -- returns-3
+    (λ c κs. search rules)  -- new_time-requires
+    (λ c. search (tests, ← c.new_time.ensures, c.if-time-n.true, c.if-t.true))  -- returns-then-time-n
+    (λ c. search (tests, c.if-time-n.false, c.if-t.true))  -- returns-then-t
+    (λ c κs. search rules)  -- new_time-requires-2
+    (λ c. search (tests, ← c.new_time-2.ensures, c.if-t.false))  -- returns
     )

@@ -10,12 +10,12 @@ unfolding outcome_number
 number_spec =
     tie.close
     (tie.spec
-    (λ c. search rules)  -- enum_told
-    (λ c. search rules)  -- enum-told-2
-    (λ c. search rules)  -- enum-told-3
-    (λ c. search rules)  -- enum-told-4
-    (λ c. search (tests, c.enum_told.given.1))  -- returns
-    (λ c. search (tests, c.enum-told2.given.1))  -- returns-2
-    (λ c. search (tests, c.enum-told3.given.1))  -- returns-3
-    (λ c. search (tests, c.enum-told4.given.1))  -- returns-4
+    (λ c. search rules)  -- enum_told-1
+    (λ c. search rules)  -- enum_told-in-BadText
+    (λ c. search rules)  -- enum_told-in-EarlierTime
+    (λ c. search rules)  -- enum_told-in-NoRoom
+    (λ c. search (tests, c.in-Accepted.is))  -- returns-in-Accepted
+    (λ c. search (tests, c.in-BadText.is))  -- returns-in-BadText
+    (λ c. search (tests, c.in-EarlierTime.is))  -- returns-in-EarlierTime
+    (λ c. search (tests, c.in-NoRoom.is))  -- returns-in-NoRoom
     )
