@@ -221,6 +221,7 @@ impl Tree {
     }
 
     // What a plain write itself moves.
+    #[tactic(auto, unfolding(crate::specs::Tree::applied_of, crate::specs::Moved::cell_of))]
     fn applied(self, write: Write) -> Acted
         ensures { result ≡ with_moved self (applied_of self write) (Act.Write write) }
     {
@@ -234,6 +235,7 @@ impl Tree {
     }
 
     // What any other change itself moves; the bridge's own cells have settled. An input change is no write: it has no word.
+    #[tactic(auto, unfolding(crate::specs::Tree::moved_of, crate::specs::Moved::cell_of))]
     fn moved(self, change: Change) -> Acted
         ensures { result ≡ with_moved self (moved_of self change) (Act.Change change) }
     {

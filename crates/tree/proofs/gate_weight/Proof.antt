@@ -7,7 +7,7 @@ pub gate_weight_spec : {M : Type 1} → statement M
 gate_weight_spec =
     tie.close
     (tie.spec
-    (λ c. search rules)  -- returns
-    (λ c. search (tests, c.if2.true, c.before.if1.false))  -- returns-2
-    (λ c. search (tests, c.if2.false, c.before.if1.false))  -- returns-3
+    (λ c. search rules)  -- returns-then-high
+    (λ c. search (tests, c.if-width-eq8.true, c.if-high.false))  -- returns-then-width-eq8
+    (λ c. search (tests, c.if-width-eq8.false, c.if-high.false))  -- returns-else-width-eq8
     )

@@ -10,7 +10,7 @@ gate_written_spec =
     tie.close
     (tie.spec
     (λ c κs. search rules)  -- test-requires
-    (λ c. search (tests, ← c.test.ensures, c.before.if1.true))  -- returns
+    (λ c. search (tests, ← c.test.ensures, c.if-high.true))  -- returns-then-high
     (λ c κs. search rules)  -- test-requires-2
-    (λ c. search (tests, ← c.test2.ensures, c.before.if1.false))  -- returns-2
+    (λ c. search (tests, ← c.test-2.ensures, c.if-high.false))  -- returns
     )

@@ -8,9 +8,9 @@ pub acted_spec : {M : Type 1} → statement M
 acted_spec =
     tie.close
     (tie.spec
-    (λ c κs. search rules)  -- unsettled-requires
+    (λ c κs. search rules)  -- unsettled-after-requires
     (λ c κs. search rules)  -- before-requires
     (λ c κs. search rules)  -- settled-requires
     (λ c κs. search rules)  -- with-requires
-    (λ c. rw (c.with.ensures, c.before.settled.ensures, c.before.before.before2.ensures, c.before.before.before.before.unsettled.ensures, acted_by, acted_cell))  -- returns
+    (λ c. rw (c.with.ensures, c.settled.ensures, c.before-2.ensures, c.unsettled-after.ensures, acted_by, acted_cell))  -- returns
     )

@@ -9,5 +9,5 @@ before_spec =
     (tie.spec
     (λ c κs. search rules)  -- watched-requires
     (λ c κs. search rules)  -- before-requires
-    (λ c. search (tests, ← c.before2.ensures, ← c.before.watched.ensures))  -- returns
+    (λ c. search (tests, ← c.before-2.ensures, ← c.watched.ensures))  -- returns
     )

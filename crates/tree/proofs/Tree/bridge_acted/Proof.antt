@@ -6,7 +6,7 @@ pub bridge_acted_spec : {M : Type 1} → statement M
 bridge_acted_spec =
     tie.close
     (tie.spec
-    (λ c κs. search rules)  -- with-bridge-requires
+    (λ c κs. search rules)  -- with_bridge-requires
     (λ c κs. search rules)  -- with-requires
-    (λ c. rw (c.with.ensures, c.before.with-bridge.ensures))  -- returns
+    (λ c. rw (c.with.ensures, c.with_bridge.ensures))  -- returns
     )

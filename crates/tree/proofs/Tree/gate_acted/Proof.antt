@@ -10,9 +10,9 @@ unfolding applied_of cell_of
 gate_acted_spec =
     tie.close
     (tie.spec
-    (λ c κs. search rules)  -- merge1-requires
-    (λ c κs. search rules)  -- with-gate-requires
-    (λ c κs. search rules)  -- gate-read-requires
+    (λ c κs. search rules)  -- merge1-new-requires
+    (λ c κs. search rules)  -- with_gate-requires
+    (λ c κs. search rules)  -- gate_read-requires
     (λ c κs. search rules)  -- with-requires
-    (λ c. rw (c.with.ensures, c.before.gate-read.ensures, c.before.before.with-gate.ensures, c.before.before.before.merge1.ensures, gate_moved))  -- returns
+    (λ c. rw (c.with.ensures, c.gate_read.ensures, c.with_gate.ensures, c.merge1-new.ensures, gate_moved))  -- returns
     )

@@ -9,6 +9,6 @@ lines_spec =
     tie.close
     (tie.spec
     (λ c κs. search rules)  -- lines-requires
-    (λ c. c.lines.ensures ∙ lines_open _ c.before.before.if1.true)  -- returns
-    (λ c. lines_closed _ c.if1.false)  -- returns-2
+    (λ c. c.lines.ensures ∙ lines_open _ c.if-self.true)  -- returns-then-self
+    (λ c. lines_closed _ c.if-self.false)  -- returns
     )

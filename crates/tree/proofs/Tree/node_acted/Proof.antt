@@ -6,7 +6,7 @@ pub node_acted_spec : {M : Type 1} → statement M
 node_acted_spec =
     tie.close
     (tie.spec
-    (λ c κs. search rules)  -- with-node-requires
+    (λ c κs. search rules)  -- with_node-requires
     (λ c κs. search rules)  -- with-requires
-    (λ c. rw (c.with.ensures, c.before.with-node.ensures))  -- returns
+    (λ c. rw (c.with.ensures, c.with_node.ensures))  -- returns
     )

@@ -9,18 +9,18 @@ unfolding read_of
 read_spec =
     tie.close
     (tie.spec
-    (λ c. search rules)  -- enum-known-read
+    (λ c. search rules)  -- enum_known-read
     (λ c κs. search rules)  -- read-requires
-    (λ c. search rules)  -- enum-known-read-2
-    (λ c κs. search rules)  -- gate-weight-requires
-    (λ c κs. search rules)  -- gate-read-requires
-    (λ c. search rules)  -- enum-known-read-3
+    (λ c. search rules)  -- enum_known-read-in-Gate-1
+    (λ c κs. search rules)  -- gate_weight-requires
+    (λ c κs. search rules)  -- gate_read-requires
+    (λ c. search rules)  -- enum_known-read-in-Node-1
     (λ c κs. search rules)  -- lines-requires
-    (λ c κs. search rules)  -- read-requires-2
-    (λ c. search rules)  -- enum-known-read-4
+    (λ c κs. search rules)  -- read-requires-in-Node
+    (λ c. search rules)  -- enum_known-read-in-Which-1
     (λ c κs. search rules)  -- which-requires
-    (λ c. search (tests, ← c.read2.ensures, c.before.before.read.given.1))  -- returns
-    (λ c. search (tests, ← c.gate-read.ensures, ← c.before.gate-weight.ensures, c.before.before.before.read3.given.1))  -- returns-2
-    (λ c. search (tests, ← c.read5.ensures, ← c.before.lines.ensures, c.before.before.before.read4.given.1))  -- returns-3
-    (λ c. search (tests, ← c.which.ensures, c.before.before.read6.given.1))  -- returns-4
+    (λ c. search (tests, ← c.read.ensures, c.in-Bridge.is))  -- returns-in-Bridge
+    (λ c. search (tests, ← c.gate_read.ensures, ← c.gate_weight.ensures, c.in-Gate.is))  -- returns-in-Gate
+    (λ c. search (tests, ← c.read-in-Node.ensures, ← c.lines.ensures, c.in-Node.is))  -- returns-in-Node
+    (λ c. search (tests, ← c.which.ensures, c.in-Which.is))  -- returns-in-Which
     )

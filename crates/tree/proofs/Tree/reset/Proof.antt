@@ -9,6 +9,6 @@ unfolding reset_of
 reset_spec =
     tie.close
     (tie.spec
-    (λ c κs. search rules)  -- with-levels-requires
-    (λ c. search (tests, ← c.with-levels.ensures))  -- returns
+    (λ c κs. search rules)  -- with_levels-requires
+    (λ c. search (tests, ← c.with_levels.ensures))  -- returns
     )

@@ -9,6 +9,6 @@ settled_spec =
     (tie.spec
     (λ c κs. search rules)  -- watched-requires
     (λ c κs. search rules)  -- settled-requires
-    (λ c κs. search rules)  -- with-node-requires
-    (λ c. search (tests, ← c.with-node.ensures, ← c.before.settled.ensures, ← c.before.before.watched.ensures))  -- returns
+    (λ c κs. search rules)  -- with_node-requires
+    (λ c. search (tests, ← c.with_node.ensures, ← c.settled.ensures, ← c.watched.ensures))  -- returns
     )

@@ -8,10 +8,10 @@ unfolding unsettled_of
 unsettled_spec =
     tie.close
     (tie.spec
-    (λ c. search rules)  -- enum-known-act
+    (λ c. search rules)  -- enum_known-act
     (λ c κs. search rules)  -- applied-requires
-    (λ c. search rules)  -- enum-known-act-2
+    (λ c. search rules)  -- enum_known-act-in-Change-1
     (λ c κs. search rules)  -- moved-requires
-    (λ c. rw (c.applied.ensures, c.before.before.act.given.1))  -- returns
-    (λ c. rw (c.moved.ensures, c.before.before.act2.given.1))  -- returns-2
+    (λ c. rw (c.applied.ensures, c.in-Write.is))  -- returns-in-Write
+    (λ c. rw (c.moved.ensures, c.in-Change.is))  -- returns-in-Change
     )

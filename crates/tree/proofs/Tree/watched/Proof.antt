@@ -7,7 +7,7 @@ pub watched_spec : {M : Type 1} → statement M
 watched_spec =
     tie.close
     (tie.spec
-    (λ c. search (tests, c.if1.true))  -- returns
+    (λ c. search (tests, c.if-edge-eq0.true))  -- returns-then-edge-eq0
     (λ c κs. search rules)  -- lines-requires
-    (λ c. search (tests, ← c.lines.ensures, c.before.if1.false))  -- returns-2
+    (λ c. search (tests, ← c.lines.ensures, c.if-edge-eq0.false))  -- returns
     )
