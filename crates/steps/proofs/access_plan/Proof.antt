@@ -9,8 +9,8 @@ unfolding access_plan
 access_plan_spec =
     tie.close
     (tie.spec
-    (λ c κs. search rules)  -- write-plan-requires
-    (λ c κs. search rules)  -- read-plan-requires
-    (λ c. search (tests, ← c.write-plan.ensures, c.before.if1.true))  -- returns
-    (λ c. search (tests, ← c.read-plan.ensures, c.before.if1.false))  -- returns-2
+    (λ c κs. search rules)  -- write_plan-requires
+    (λ c κs. search rules)  -- read_plan-requires
+    (λ c. search (tests, ← c.write_plan.ensures, c.if-write.true))  -- returns-then-write
+    (λ c. search (tests, ← c.read_plan.ensures, c.if-write.false))  -- returns-else-write
     )

@@ -8,12 +8,12 @@ unfolding bridge_plan
 bridge_plan_spec =
     tie.close
     (tie.spec
-    (λ c κs. search rules)  -- bridge-verdict-requires
-    (λ c. search rules)  -- enum-known-refusal
-    (λ c. search rules)  -- enum_told
+    (λ c κs. search rules)  -- bridge_verdict-requires
+    (λ c. search rules)  -- enum_known-refusal
+    (λ c. search rules)  -- enum_told-1
     (λ c κs. search rules)  -- write-requires
-    (λ c κs. search rules)  -- written-plan-requires
-    (λ c. rw (← c.before.before.before.before.before.bridge-verdict.ensures, c.before.before.before.enum_told.given.1, c.before.before.if1.true, ← c.before.write.ensures) c.written-plan.ensures)  -- returns
-    (λ c. rw (← c.before.before.before.bridge-verdict.ensures, c.before.refusal.given.1))  -- returns-2
-    (λ c. rw (← c.before.before.before.bridge-verdict.ensures, c.before.enum_told.given.1, c.if1.false))  -- returns-3
+    (λ c κs. search rules)  -- written_plan-requires
+    (λ c. rw (← c.bridge_verdict.ensures, c.in-Accepted.is, c.if-write.true, ← c.write.ensures) c.written_plan.ensures)  -- returns-then-write
+    (λ c. rw (← c.bridge_verdict.ensures, c.in-Refused.is))  -- returns-in-Refused
+    (λ c. rw (← c.bridge_verdict.ensures, c.in-Accepted.is, c.if-write.false))  -- returns-else-write
     )

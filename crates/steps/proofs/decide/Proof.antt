@@ -9,22 +9,22 @@ decide_spec =
     tie.close
     (tie.spec
     (λ c κs. search rules)  -- requested-requires
-    (λ c. search rules)  -- enum-known-address
-    (λ c κs. search rules)  -- window-plan-requires
-    (λ c. search rules)  -- enum-known-register
-    (λ c κs. search rules)  -- bridge-plan-requires
-    (λ c. search rules)  -- enum-known-source
-    (λ c κs. search rules)  -- input-plan-requires
-    (λ c. search rules)  -- enum-known-source-2
-    (λ c κs. search rules)  -- node-input-plan-requires
-    (λ c. search rules)  -- enum-known-chip
-    (λ c. search rules)  -- enum-known-open
-    (λ c. search rules)  -- enum_told
-    (λ c. rw (← c.before.before.before.before.requested.ensures c.before.before.before.before.before.args.second-open, c.before.before.address.given.1) c.window-plan.ensures)  -- returns
-    (λ c. rw (← c.before.before.before.before.requested.ensures c.before.before.before.before.before.args.second-open, c.before.before.register.given.1) c.bridge-plan.ensures)  -- returns-2
-    (λ c. rw (← c.before.before.before.before.requested.ensures c.before.before.before.before.before.args.second-open, c.before.before.source.given.1) c.input-plan.ensures)  -- returns-3
-    (λ c. rw (← c.before.before.before.before.requested.ensures c.before.before.before.before.before.args.second-open, c.before.before.source2.given.1) c.node-input-plan.ensures)  -- returns-4
-    (λ c. rw (← c.before.before.before.requested.ensures c.before.before.before.before.args.second-open, c.before.chip.given.1))  -- returns-5
-    (λ c. rw (← c.before.before.before.requested.ensures c.before.before.before.before.args.second-open, c.before.«open».given.1))  -- returns-6
-    (λ c. rw (← c.before.before.requested.ensures c.before.before.before.args.second-open, c.enum_told.given.1))  -- returns-7
+    (λ c. search rules)  -- enum_known-address
+    (λ c κs. search rules)  -- window_plan-requires
+    (λ c. search rules)  -- enum_known-register
+    (λ c κs. search rules)  -- bridge_plan-requires
+    (λ c. search rules)  -- enum_known-source
+    (λ c κs. search rules)  -- input_plan-requires
+    (λ c. search rules)  -- enum_known-source-in-NodeInput-1
+    (λ c κs. search rules)  -- node_input_plan-requires
+    (λ c. search rules)  -- enum_known-chip
+    (λ c. search rules)  -- enum_known-open
+    (λ c. search rules)  -- enum_told-1
+    (λ c. rw (← c.requested.ensures c.args.second_open, c.in-Access.is) c.window_plan.ensures)  -- returns-in-Access
+    (λ c. rw (← c.requested.ensures c.args.second_open, c.in-Bridge.is) c.bridge_plan.ensures)  -- returns-in-Bridge
+    (λ c. rw (← c.requested.ensures c.args.second_open, c.in-Input.is) c.input_plan.ensures)  -- returns-in-Input
+    (λ c. rw (← c.requested.ensures c.args.second_open, c.in-NodeInput.is) c.node_input_plan.ensures)  -- returns-in-NodeInput
+    (λ c. rw (← c.requested.ensures c.args.second_open, c.in-Which.is))  -- returns-in-Which
+    (λ c. rw (← c.requested.ensures c.args.second_open, c.before.«open».given.1))  -- returns-in-Window
+    (λ c. rw (← c.requested.ensures c.args.second_open, c.in-Reset.is))  -- returns-in-Reset
     )

@@ -9,9 +9,9 @@ unfolding node_input_plan
 node_input_plan_spec =
     tie.close
     (tie.spec
-    (λ c κs. search rules)  -- node-input-verdict-requires
-    (λ c. search rules)  -- enum-known-refusal
-    (λ c. search rules)  -- enum_told
-    (λ c. search (tests, c.before.refusal.given.1, ← c.before.before.before.node-input-verdict.ensures))  -- returns
-    (λ c. search (tests, c.enum_told.given.1, ← c.before.before.node-input-verdict.ensures))  -- returns-2
+    (λ c κs. search rules)  -- node_input_verdict-requires
+    (λ c. search rules)  -- enum_known-refusal
+    (λ c. search rules)  -- enum_told-1
+    (λ c. search (tests, c.in-Refused.is, ← c.node_input_verdict.ensures))  -- returns-in-Refused
+    (λ c. search (tests, c.in-Accepted.is, ← c.node_input_verdict.ensures))  -- returns-in-Accepted
     )

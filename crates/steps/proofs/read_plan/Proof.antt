@@ -9,14 +9,14 @@ unfolding read_plan
 read_plan_spec =
     tie.close
     (tie.spec
-    (λ c. search rules)  -- enum-known-place
-    (λ c. search rules)  -- enum-known-place-2
-    (λ c. search rules)  -- enum_told
-    (λ c κs. search rules)  -- gate-read-requires
-    (λ c. search rules)  -- enum-told-2
-    (λ c κs. search rules)  -- gate-read-requires-2
-    (λ c. search (tests, c.before.place.given.1))  -- returns
-    (λ c. search (tests, c.before.place2.given.1))  -- returns-2
-    (λ c. search (tests, ← c.gate-read.ensures, c.before.enum_told.given.1))  -- returns-3
-    (λ c. search (tests, ← c.gate-read2.ensures, c.before.enum-told2.given.1))  -- returns-4
+    (λ c. search rules)  -- enum_known-place
+    (λ c. search rules)  -- enum_known-place-in-Node-1
+    (λ c. search rules)  -- enum_told-1
+    (λ c κs. search rules)  -- gate_read-requires
+    (λ c. search rules)  -- enum_told-in-GateHigh
+    (λ c κs. search rules)  -- gate_read-requires-in-GateHigh
+    (λ c. search (tests, c.in-Message.is))  -- returns-in-Message
+    (λ c. search (tests, c.in-Node.is))  -- returns-in-Node
+    (λ c. search (tests, ← c.gate_read.ensures, c.in-Gate.is))  -- returns-in-Gate
+    (λ c. search (tests, ← c.gate_read-in-GateHigh.ensures, c.in-GateHigh.is))  -- returns-in-GateHigh
     )

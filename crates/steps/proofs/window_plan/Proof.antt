@@ -10,9 +10,9 @@ window_plan_spec =
     tie.close
     (tie.spec
     (λ c κs. search rules)  -- admit-requires
-    (λ c. search rules)  -- enum-known-refusal
-    (λ c. search rules)  -- enum-known-place
-    (λ c κs. search rules)  -- access-plan-requires
-    (λ c. rw (← c.before.before.before.admit.ensures, c.before.refusal.given.1))  -- returns
-    (λ c. rw (← c.before.before.before.before.admit.ensures, c.before.before.place.given.1) c.access-plan.ensures)  -- returns-2
+    (λ c. search rules)  -- enum_known-refusal
+    (λ c. search rules)  -- enum_known-place
+    (λ c κs. search rules)  -- access_plan-requires
+    (λ c. rw (← c.admit.ensures, c.in-Refused.is))  -- returns-in-Refused
+    (λ c. rw (← c.admit.ensures, c.in-At.is) c.access_plan.ensures)  -- returns-in-At
     )

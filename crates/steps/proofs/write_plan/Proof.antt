@@ -9,17 +9,17 @@ unfolding write_plan
 write_plan_spec =
     tie.close
     (tie.spec
-    (λ c. search rules)  -- enum-known-place
-    (λ c κs. search rules)  -- write-effect-requires
-    (λ c. search rules)  -- enum-known-place-2
+    (λ c. search rules)  -- enum_known-place
+    (λ c κs. search rules)  -- write_effect-requires
+    (λ c. search rules)  -- enum_known-place-in-Node-1
     (λ c κs. search rules)  -- write-requires
-    (λ c κs. search rules)  -- node-plan-requires
-    (λ c. search rules)  -- enum_told
-    (λ c κs. search rules)  -- gate-written-requires
-    (λ c. search rules)  -- enum-told-2
-    (λ c κs. search rules)  -- gate-written-requires-2
-    (λ c. search (tests, ← c.write-effect.ensures, c.before.before.place.given.1))  -- returns
-    (λ c. search (tests, ← c.node-plan.ensures, ← c.before.write.ensures, c.before.before.before.place2.given.1))  -- returns-2
-    (λ c. search (tests, ← c.gate-written.ensures, c.before.enum_told.given.1))  -- returns-3
-    (λ c. search (tests, ← c.gate-written2.ensures, c.before.enum-told2.given.1))  -- returns-4
+    (λ c κs. search rules)  -- node_plan-requires
+    (λ c. search rules)  -- enum_told-1
+    (λ c κs. search rules)  -- gate_written-requires
+    (λ c. search rules)  -- enum_told-in-GateHigh
+    (λ c κs. search rules)  -- gate_written-requires-in-GateHigh
+    (λ c. search (tests, ← c.write_effect.ensures, c.in-Message.is))  -- returns-in-Message
+    (λ c. search (tests, ← c.node_plan.ensures, ← c.write.ensures, c.in-Node.is))  -- returns-in-Node
+    (λ c. search (tests, ← c.gate_written.ensures, c.in-Gate.is))  -- returns-in-Gate
+    (λ c. search (tests, ← c.gate_written-in-GateHigh.ensures, c.in-GateHigh.is))  -- returns-in-GateHigh
     )

@@ -9,8 +9,8 @@ unfolding written_plan
 written_plan_spec =
     tie.close
     (tie.spec
-    (λ c. search rules)  -- enum-known-written
-    (λ c. search rules)  -- enum-known-written-2
-    (λ c. search (tests, c.before.written.given.1))  -- returns
-    (λ c. search (tests, c.before.written2.given.1))  -- returns-2
+    (λ c. search rules)  -- enum_known-written
+    (λ c. search rules)  -- enum_known-written-in-Changed-1
+    (λ c. search (tests, c.in-Plain.is))  -- returns-in-Plain
+    (λ c. search (tests, c.in-Changed.is))  -- returns-in-Changed
     )

@@ -9,36 +9,36 @@ unfolding decide_of request_plan
 requested_spec =
     tie.close
     (tie.spec
-    (λ c. search rules)  -- enum-known-step
-    (λ c κs. search rules)  -- bus-address-requires
+    (λ c. search rules)  -- enum_known-step
+    (λ c κs. search rules)  -- bus_address-requires
     (λ c κs. search rules)  -- access-requires
-    (λ c. search rules)  -- enum-known-step-2
-    (λ c κs. search rules)  -- bus-address-requires-2
-    (λ c κs. search rules)  -- access-requires-2
-    (λ c. search rules)  -- enum-known-step-3
-    (λ c κs. search rules)  -- in-private-requires
-    (λ c κs. search rules)  -- access-requires-3
-    (λ c. search rules)  -- enum-known-step-4
-    (λ c κs. search rules)  -- in-private-requires-2
-    (λ c κs. search rules)  -- access-requires-4
-    (λ c. search rules)  -- enum-known-step-5
-    (λ c κs. search rules)  -- on-bridge-requires
-    (λ c. search rules)  -- enum-known-step-6
-    (λ c κs. search rules)  -- on-bridge-requires-2
-    (λ c. search rules)  -- enum-known-step-7
-    (λ c. search rules)  -- enum-known-step-8
-    (λ c. search rules)  -- enum-known-step-9
-    (λ c. search rules)  -- enum-known-step-10
-    (λ c. search rules)  -- enum_told
-    (λ c opened. rw (c.access.ensures, c.before.bus-address.ensures, c.before.before.before.step.given.1))  -- returns
-    (λ c opened. rw (c.access2.ensures, c.before.bus-address2.ensures, c.before.before.before.step2.given.1))  -- returns-2
-    (λ c opened. rw (c.access3.ensures, c.before.in-private.ensures, c.before.before.before.step3.given.1))  -- returns-3
-    (λ c opened. rw (c.access4.ensures, c.before.in-private2.ensures, c.before.before.before.step4.given.1))  -- returns-4
-    (λ c opened. rw (c.on-bridge.ensures, c.before.before.step5.given.1))  -- returns-5
-    (λ c opened. rw (c.on-bridge2.ensures, c.before.before.step6.given.1))  -- returns-6
-    (λ c opened. rw c.before.step7.given.1)  -- returns-7
-    (λ c opened. rw c.before.step8.given.1)  -- returns-8
-    (λ c opened. rw c.before.step9.given.1)  -- returns-9
-    (λ c opened. rw c.before.step10.given.1)  -- returns-10
-    (λ c opened. rw c.enum_told.given.1)  -- returns-11
+    (λ c. search rules)  -- enum_known-step-in-BusWrite-1
+    (λ c κs. search rules)  -- bus_address-requires-in-BusWrite
+    (λ c κs. search rules)  -- access-requires-in-BusWrite
+    (λ c. search rules)  -- enum_known-step-in-PrivateRead-1
+    (λ c κs. search rules)  -- in_private-requires
+    (λ c κs. search rules)  -- access-requires-in-PrivateRead
+    (λ c. search rules)  -- enum_known-step-in-PrivateWrite-1
+    (λ c κs. search rules)  -- in_private-requires-in-PrivateWrite
+    (λ c κs. search rules)  -- access-requires-in-PrivateWrite
+    (λ c. search rules)  -- enum_known-step-in-BridgeRead-1
+    (λ c κs. search rules)  -- on_bridge-requires
+    (λ c. search rules)  -- enum_known-step-in-BridgeWrite-1
+    (λ c κs. search rules)  -- on_bridge-requires-in-BridgeWrite
+    (λ c. search rules)  -- enum_known-step-in-Input-1
+    (λ c. search rules)  -- enum_known-step-in-NodeInput-1
+    (λ c. search rules)  -- enum_known-step-in-Which-1
+    (λ c. search rules)  -- enum_known-step-in-Window-1
+    (λ c. search rules)  -- enum_told-1
+    (λ c opened. rw (c.access.ensures, c.bus_address.ensures, c.in-BusRead.is))  -- returns-in-BusRead
+    (λ c opened. rw (c.access-in-BusWrite.ensures, c.bus_address-in-BusWrite.ensures, c.in-BusWrite.is))  -- returns-in-BusWrite
+    (λ c opened. rw (c.access-in-PrivateRead.ensures, c.in_private.ensures, c.in-PrivateRead.is))  -- returns-in-PrivateRead
+    (λ c opened. rw (c.access-in-PrivateWrite.ensures, c.in_private-in-PrivateWrite.ensures, c.in-PrivateWrite.is))  -- returns-in-PrivateWrite
+    (λ c opened. rw (c.on_bridge.ensures, c.in-BridgeRead.is))  -- returns-in-BridgeRead
+    (λ c opened. rw (c.on_bridge-in-BridgeWrite.ensures, c.in-BridgeWrite.is))  -- returns-in-BridgeWrite
+    (λ c opened. rw c.in-Input.is)  -- returns-in-Input
+    (λ c opened. rw c.in-NodeInput.is)  -- returns-in-NodeInput
+    (λ c opened. rw c.in-Which.is)  -- returns-in-Which
+    (λ c opened. rw c.in-Window.is)  -- returns-in-Window
+    (λ c opened. rw c.in-Reset.is)  -- returns-in-Reset
     )
