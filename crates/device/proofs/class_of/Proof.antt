@@ -9,20 +9,20 @@ unfolding class_of
 class_of_spec =
     tie.close
     (tie.spec
-    (λ c. search rules)  -- enum_told
-    (λ c. search rules)  -- enum-told-2
-    (λ c. search rules)  -- enum-told-3
-    (λ c. search rules)  -- enum-known-plan
-    (λ c. search rules)  -- enum-known-plan-2
-    (λ c. search rules)  -- enum-known-plan-3
-    (λ c. search rules)  -- enum-known-plan-4
-    (λ c. search rules)  -- enum-told-4
-    (λ c. search (tests, c.enum_told.given.1))  -- returns
-    (λ c. search (tests, c.enum-told2.given.1))  -- returns-2
-    (λ c. search (tests, c.enum-told3.given.1))  -- returns-3
-    (λ c. search (tests, c.before.plan.given.1))  -- returns-4
-    (λ c. search (tests, c.before.plan2.given.1))  -- returns-5
-    (λ c. search (tests, c.before.plan3.given.1))  -- returns-6
-    (λ c. search (tests, c.before.plan4.given.1))  -- returns-7
-    (λ c. search (tests, c.enum-told4.given.1))  -- returns-8
+    (λ c. search rules)  -- enum_told-1
+    (λ c. search rules)  -- enum_told-in-ReadCore
+    (λ c. search rules)  -- enum_told-in-ReadTree
+    (λ c. search rules)  -- enum_known-plan
+    (λ c. search rules)  -- enum_known-plan-in-WriteTree-1
+    (λ c. search rules)  -- enum_known-plan-in-ChangeTree-1
+    (λ c. search rules)  -- enum_known-plan-in-Window-1
+    (λ c. search rules)  -- enum_told-in-Reset
+    (λ c. search (tests, c.in-Refuse.is))  -- returns-in-Refuse
+    (λ c. search (tests, c.in-ReadCore.is))  -- returns-in-ReadCore
+    (λ c. search (tests, c.in-ReadTree.is))  -- returns-in-ReadTree
+    (λ c. search (tests, c.in-WriteCore.is))  -- returns-in-WriteCore
+    (λ c. search (tests, c.in-WriteTree.is))  -- returns-in-WriteTree
+    (λ c. search (tests, c.in-ChangeTree.is))  -- returns-in-ChangeTree
+    (λ c. search (tests, c.in-Window.is))  -- returns-in-Window
+    (λ c. search (tests, c.in-Reset.is))  -- returns-in-Reset
     )

@@ -25,6 +25,6 @@ decide_spec =
     (λ c. rw (← c.requested.ensures c.args.second_open, c.in-Input.is) c.input_plan.ensures)  -- returns-in-Input
     (λ c. rw (← c.requested.ensures c.args.second_open, c.in-NodeInput.is) c.node_input_plan.ensures)  -- returns-in-NodeInput
     (λ c. rw (← c.requested.ensures c.args.second_open, c.in-Which.is))  -- returns-in-Which
-    (λ c. rw (← c.requested.ensures c.args.second_open, c.before.«open».given.1))  -- returns-in-Window
+    (λ c. rw (← c.requested.ensures c.args.second_open, c.in-Window.is))  -- returns-in-Window
     (λ c. rw (← c.requested.ensures c.args.second_open, c.in-Reset.is))  -- returns-in-Reset
     )

@@ -7,12 +7,12 @@ pub cores_applied_spec : {M : Type 1} → statement M
 cores_applied_spec =
     tie.close
     (tie.spec
-    (λ c κs. search rules)  -- applied-requires
-    (λ c κs. search rules)  -- applied-requires-2
-    (λ c κs. search rules)  -- with-cores-requires
+    (λ c κs. search rules)  -- applied-applied0-requires
+    (λ c κs. search rules)  -- applied-applied1-requires
+    (λ c κs. search rules)  -- with_cores-requires
     (λ c κs. search rules)  -- with-requires
     (λ c.
-    let p = c.before.before.before
-    in rw (c.with.ensures, p.with-cores.ensures, p.before.before.before.applied2.ensures, p.before.before.before.before.applied.ensures)
+    let p = c.before
+    in rw (c.with.ensures, p.with_cores.ensures, p.before.before.before.applied-applied1.ensures, p.before.before.before.before.applied-applied0.ensures)
     (applied_chosen _ _ _))  -- returns
     )

@@ -9,5 +9,5 @@ fresh_spec =
     (tie.spec
     (λ c κs. search rules)  -- fresh-requires
     (λ c κs. search rules)  -- start-requires
-    (λ c. search (tests, ← c.start.ensures, ← c.before.fresh.ensures))  -- returns
+    (λ c. search (tests, ← c.start.ensures, ← c.fresh.ensures))  -- returns
     )

@@ -8,21 +8,21 @@ unfolding class_next
 next_spec =
     tie.close
     (tie.spec
-    (λ c. search rules)  -- enum_told
+    (λ c. search rules)  -- enum_told-1
     (λ c κs. search rules)  -- with-requires
-    (λ c. search rules)  -- enum-known-class
-    (λ c κs. search rules)  -- cores-applied-requires
-    (λ c. search rules)  -- enum-known-class-2
-    (λ c κs. search rules)  -- tree-acted-requires
-    (λ c. search rules)  -- enum-known-class-3
-    (λ c κs. search rules)  -- with-open-requires
-    (λ c κs. search rules)  -- with-requires-2
-    (λ c. search rules)  -- enum-told-2
+    (λ c. search rules)  -- enum_known-class
+    (λ c κs. search rules)  -- cores_applied-requires
+    (λ c. search rules)  -- enum_known-class-in-Tree-1
+    (λ c κs. search rules)  -- tree_acted-requires
+    (λ c. search rules)  -- enum_known-class-in-Window-1
+    (λ c κs. search rules)  -- with_open-requires
+    (λ c κs. search rules)  -- with-requires-in-Window
+    (λ c. search rules)  -- enum_told-in-Reset
     (λ c κs. search rules)  -- reset-requires
-    (λ c κs. search rules)  -- with-requires-3
-    (λ c. rw (c.with.ensures, c.before.enum_told.given.1))  -- returns
-    (λ c. rw (c.cores-applied.ensures, c.before.before.class.given.1))  -- returns-2
-    (λ c. rw (c.tree-acted.ensures, c.before.before.class2.given.1))  -- returns-3
-    (λ c. rw (c.with2.ensures, c.before.with_open.ensures, c.before.before.before.class3.given.1))  -- returns-4
-    (λ c. rw (c.with3.ensures, c.before.reset.ensures, c.before.before.enum-told2.given.1))  -- returns-5
+    (λ c κs. search rules)  -- with-requires-in-Reset
+    (λ c. rw (c.with.ensures, c.in-Keep.is))  -- returns-in-Keep
+    (λ c. rw (c.cores_applied.ensures, c.in-Cores.is))  -- returns-in-Cores
+    (λ c. rw (c.tree_acted.ensures, c.in-Tree.is))  -- returns-in-Tree
+    (λ c. rw (c.with-in-Window.ensures, c.with_open.ensures, c.in-Window.is))  -- returns-in-Window
+    (λ c. rw (c.with-in-Reset.ensures, c.reset.ensures, c.in-Reset.is))  -- returns-in-Reset
     )

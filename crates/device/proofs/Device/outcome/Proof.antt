@@ -10,24 +10,24 @@ unfolding outcome_of
 outcome_spec =
     tie.close
     (tie.spec
-    (λ c. search rules)  -- enum-known-plan
-    (λ c. search rules)  -- enum-known-plan-2
-    (λ c κs. search rules)  -- read-requires
-    (λ c κs. search rules)  -- read-requires-2
+    (λ c. search rules)  -- enum_known-plan
+    (λ c. search rules)  -- enum_known-plan-in-ReadCore-1
+    (λ c κs. search rules)  -- read-word0-requires
+    (λ c κs. search rules)  -- read-word1-requires
     (λ c κs. search rules)  -- choose-requires
-    (λ c. search rules)  -- enum-known-plan-3
-    (λ c κs. search rules)  -- read-requires-3
-    (λ c. search rules)  -- enum_told
-    (λ c. search rules)  -- enum-told-2
-    (λ c. search rules)  -- enum-told-3
-    (λ c. search rules)  -- enum-told-4
-    (λ c. search rules)  -- enum-told-5
-    (λ c. search (tests, c.before.plan.given.1))  -- returns
-    (λ c. rw (c.before.before.before.before.plan2.given.1, ← read_chosen, c.choose.ensures, c.before.read2.ensures, c.before.before.read.ensures))  -- returns-2
-    (λ c. search (tests, ← c.read3.ensures, c.before.before.before.plan3.given.1))  -- returns-3
-    (λ c. search (tests, c.enum_told.given.1))  -- returns-4
-    (λ c. search (tests, c.enum-told2.given.1))  -- returns-5
-    (λ c. search (tests, c.enum-told3.given.1))  -- returns-6
-    (λ c. search (tests, c.enum-told4.given.1))  -- returns-7
-    (λ c. search (tests, c.enum-told5.given.1))  -- returns-8
+    (λ c. search rules)  -- enum_known-plan-in-ReadTree-1
+    (λ c κs. search rules)  -- read-requires
+    (λ c. search rules)  -- enum_told-1
+    (λ c. search rules)  -- enum_told-in-WriteTree
+    (λ c. search rules)  -- enum_told-in-ChangeTree
+    (λ c. search rules)  -- enum_told-in-Window
+    (λ c. search rules)  -- enum_told-in-Reset
+    (λ c. search (tests, c.in-Refuse.is))  -- returns-in-Refuse
+    (λ c. rw (c.in-ReadCore.is, ← read_chosen, c.choose.ensures, c.read-word1.ensures, c.read-word0.ensures))  -- returns-in-ReadCore
+    (λ c. search (tests, ← c.read.ensures, c.in-ReadTree.is))  -- returns-in-ReadTree
+    (λ c. search (tests, c.in-WriteCore.is))  -- returns-in-WriteCore
+    (λ c. search (tests, c.in-WriteTree.is))  -- returns-in-WriteTree
+    (λ c. search (tests, c.in-ChangeTree.is))  -- returns-in-ChangeTree
+    (λ c. search (tests, c.in-Window.is))  -- returns-in-Window
+    (λ c. search (tests, c.in-Reset.is))  -- returns-in-Reset
     )

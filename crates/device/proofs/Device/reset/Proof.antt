@@ -11,5 +11,5 @@ reset_spec =
     (tie.spec
     (λ c κs. search rules)  -- reset-requires
     (λ c κs. search rules)  -- start-requires
-    (λ c. search (tests, ← c.start.ensures, ← c.before.reset.ensures))  -- returns
+    (λ c. search (tests, ← c.start.ensures, ← c.reset.ensures))  -- returns
     )

@@ -9,10 +9,10 @@ unfolding step_of
 step_spec =
     tie.close
     (tie.spec
-    (λ c κs. search rules)  -- decide-requires
-    (λ c κs. search rules)  -- outcome-requires
-    (λ c κs. search rules)  -- class-of-requires
-    (λ c κs. search rules)  -- next-requires
+    (λ c κs. search rules)  -- decide-plan-requires
+    (λ c κs. search rules)  -- outcome-outcome-requires
+    (λ c κs. search rules)  -- class_of-requires
+    (λ c κs. search rules)  -- next-next-requires
     (λ c κs. search rules)  -- answered-requires
-    (λ c. rw (c.answered.ensures, c.before.before.next.ensures, c.before.before.before.class_of.ensures, class_next_lem, c.before.before.before.before.outcome.ensures, c.before.before.before.before.before.decide.ensures))  -- returns
+    (λ c. rw (c.answered.ensures, c.next-next.ensures, c.class_of.ensures, class_next_lem, c.outcome-outcome.ensures, c.decide-plan.ensures))  -- returns
     )

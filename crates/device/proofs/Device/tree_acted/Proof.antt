@@ -8,8 +8,8 @@ unfolding class_next
 tree_acted_spec =
     tie.close
     (tie.spec
-    (λ c κs. search rules)  -- acted-requires
-    (λ c κs. search rules)  -- with-tree-requires
+    (λ c κs. search rules)  -- acted-acted-requires
+    (λ c κs. search rules)  -- with_tree-requires
     (λ c κs. search rules)  -- with-requires
-    (λ c. rw (c.with.ensures, c.before.with-tree.ensures, c.before.before.before.acted.ensures))  -- returns
+    (λ c. rw (c.with.ensures, c.with_tree.ensures, c.acted-acted.ensures))  -- returns
     )
