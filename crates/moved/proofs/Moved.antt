@@ -41,7 +41,6 @@ use Rattle.device.specs.Device.{answered_of}
 use Rattle.device.specs.Step.{cell_of, moved_word, next_of, step_of}
 use Rattle.order.specs.Places.{word_of}
 use Rattle.promises.proofs.Promises.{refused_steps}
-use Rattle.reorder.specs.declared.Cell.{Cell}
 use Rattle.reorder.specs.declared.Cell.TheVariants.{Bridge, Node}
 use Rattle.reorder.specs.declared.Given.{Given}
 use Rattle.reorder.specs.declared.Given.TheVariants.{NotListed, Nothing, Bits}

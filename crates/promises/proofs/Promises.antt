@@ -136,9 +136,9 @@ cause b k = (
         unmasked = not-true _ r.0;
         no_message = not-true _ r.1;
         routed = s.0;
-        at_turn = λ a. eqb-true _ k (rw (a.mode, a.to-0, a.to-1) at s.1);
+        at_turn = λ a. eqb-true _ k (rw (a.mode, a.to_0, a.to_1) at s.1);
       },
-  λ c. some_of 64 _ c.source c.there (rw (c.pending, c.unmasked, c.no-message, c.routed) (at_turn b k c.source c.at_turn)),
+  λ c. some_of 64 _ c.source c.there (rw (c.pending, c.unmasked, c.no_message, c.routed) (at_turn b k c.source c.at_turn)),
 )
 
 gated : (t : Tree) (k : ℕ) → (tree.bridge_line t k ≡ true) ↔ Passed t k
@@ -160,7 +160,7 @@ routed t c p = (
       let b = and_parts _ _ a.0 in
       let r = and_parts _ _ b.0 in
       record { source = w.0; there = w.1; pending = r.0; enabled = r.1; to_core_lem = b.1; to_pin_lem = a.1 },
-  λ r. some_of 32 _ r.source r.there (rw (r.pending, r.enabled, r.to-core, r.to-pin)),
+  λ r. some_of 32 _ r.source r.there (rw (r.pending, r.enabled, r.to_core_lem, r.to_pin_lem)),
 )
 
 -- line 4 * c + p is that of core c and pin p

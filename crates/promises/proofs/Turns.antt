@@ -101,8 +101,8 @@ pub one_word : OneWord
 unfolding outcome_data sources.read_of sources.in_service_word
 one_word d i t =
     let a = t.alternates in (
-      rw (reads d Chip0, bit_word 64 _ i t.there, t.pending, a.mode, a.to-0, a.to-1) (names_0 (bit (bridge d).turn i)),
-      rw (reads d Chip1, bit_word 64 _ i t.there, t.pending, a.mode, a.to-0, a.to-1) (names_1 (bit (bridge d).turn i)),
+      rw (reads d Chip0, bit_word 64 _ i t.there, t.pending, a.mode, a.to_0, a.to_1) (names_0 (bit (bridge d).turn i)),
+      rw (reads d Chip1, bit_word 64 _ i t.there, t.pending, a.mode, a.to_0, a.to_1) (names_1 (bit (bridge d).turn i)),
     )
 
 -- ---- in turn
@@ -116,7 +116,7 @@ no_reset d s i a e = true≢false (sym (rw e at a.mode) ∙ bit_zero i)
 falls : (d : Device) (s : Step) (i : ℕ) → i < 64 → Alternating (bridge (next s d)) i
     → sources.request_at (bridge d) i ≡ true → sources.request_at (bridge (next s d)) i ≡ false
     → bit (bridge (next s d)).turn i ≡ not (bit (bridge d).turn i)
-falls d s i h a up down = turn_bits d s i h (no_reset d s i a) ∙ rw (a.mode, a.to-0, a.to-1, up, down)
+falls d s i h a up down = turn_bits d s i h (no_reset d s i a) ∙ rw (a.mode, a.to_0, a.to_1, up, down)
 
 keeps : (d : Device) (s : Step) (i : ℕ) → i < 64 → Alternating (bridge (next s d)) i
     → (sources.request_at (bridge d) i ≡ true → sources.request_at (bridge (next s d)) i ≡ true)

@@ -129,7 +129,7 @@ sized d h (Bridge Msi) = refl
 sized d h (Bridge (Route i)) = h.routes
 sized d h Gate = refl
 sized d h (Node Inten) = refl
-sized d h (Node (Entry i)) = h.node-routes
+sized d h (Node (Entry i)) = h.node_routes
 
 -- ---- the rest
 
@@ -176,9 +176,9 @@ device_determined d e h k q s = λ i. record {
     gate = digit_same d.tree.gate e.tree.gate (s Gate) i;
     node = record {
       enable = s (Node Inten) i;
-      edge = (q i).node-edge;
+      edge = (q i).node_edge;
       latch = (h.latch ∙ sym k.latch) i;
-      level = (q i).node-level;
+      level = (q i).node_level;
       routes = ext_get_or 0 d.tree.node.routes e.tree.node.routes (size (Node (Entry 0))) (λ j l. s (Node (Entry j))) i;
     };
   };

@@ -10,6 +10,6 @@ bits_given_spec =
     tie.close
     (tie.spec
     (λ c κs. search rules)  -- decide-requires
-    (λ c κs. search rules)  -- plan-given-requires
-    (λ c. search (tests, ← c.plan-given.ensures, ← c.before.decide.ensures))  -- returns
+    (λ c κs. search rules)  -- plan_given-requires
+    (λ c. search (tests, ← c.plan_given.ensures, ← c.decide.ensures))  -- returns
     )

@@ -10,11 +10,11 @@ compared_spec =
     tie.close
     (tie.spec
     (λ c κs. search rules)  -- whole-requires
-    (λ c κs. search rules)  -- without-latches-requires
-    (λ c κs. search rules)  -- with-node-requires
-    (λ c κs. search rules)  -- with-tree-requires
+    (λ c κs. search rules)  -- without_latches-requires
+    (λ c κs. search rules)  -- with_node-requires
+    (λ c κs. search rules)  -- with_tree-requires
     (λ c. (
-      rw (c.with-tree.ensures, c.before.with-node.ensures, c.before.before.without-latches.ensures),
-      ordered _ c.before.before.before.before.before.whole.ensures.1,
+      rw (c.with_tree.ensures, c.with_node.ensures, c.without_latches.ensures),
+      ordered _ c.whole.ensures.1,
     ))  -- returns
     )

@@ -9,8 +9,8 @@ unfolding given_of
 core_given_spec =
     tie.close
     (tie.spec
-    (λ c κs. search rules)  -- bits-of-requires
-    (λ c. search (tests, ← c.bits_of.ensures, c.before.if1.true))  -- returns
-    (λ c κs. search rules)  -- bits-of-requires-2
-    (λ c. search (tests, ← c.bits-of2.ensures, c.before.if1.false))  -- returns-2
+    (λ c κs. search rules)  -- bits_of-requires
+    (λ c. search (tests, ← c.bits_of.ensures, c.if-core-eq0.true))  -- returns-then-core-eq0
+    (λ c κs. search rules)  -- bits_of-requires-2
+    (λ c. search (tests, ← c.bits_of-2.ensures, c.if-core-eq0.false))  -- returns
     )

@@ -9,8 +9,8 @@ unfolding tree_given
 gate_given_spec =
     tie.close
     (tie.spec
-    (λ c. search rules)  -- cast-bits-of
-    (λ c κs. search rules)  -- bits-of-requires
-    (λ c. search (tests, ← c.bits_of.ensures, c.before.if1.true))  -- returns
-    (λ c. search (tests, c.if1.false))  -- returns-2
+    (λ c. search rules)  -- overflow_cast-bit
+    (λ c κs. search rules)  -- bits_of-requires
+    (λ c. search (tests, ← c.bits_of.ensures, c.if-mask.true))  -- returns-then-mask
+    (λ c. search (tests, c.if-mask.false))  -- returns
     )

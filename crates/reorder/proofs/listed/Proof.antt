@@ -9,9 +9,9 @@ unfolding listed_in
 listed_spec =
     tie.close
     (tie.spec
-    (λ c κs. search rules)  -- is-write-requires
-    (λ c κs. search rules)  -- bits-given-requires
-    (λ c κs. search rules)  -- given-listed-requires
-    (λ c. search (tests, ← c.given-listed.ensures, ← c.before.bits-given.ensures, c.before.before.if1.true, ← c.before.before.before.is-write.ensures))  -- returns
-    (λ c. search (tests, c.if1.false, ← c.before.is-write.ensures))  -- returns-2
+    (λ c κs. search rules)  -- is_write-requires
+    (λ c κs. search rules)  -- bits_given-requires
+    (λ c κs. search rules)  -- given_listed-requires
+    (λ c. search (tests, ← c.given_listed.ensures, ← c.bits_given.ensures, c.if-is_write.true, ← c.is_write.ensures))  -- returns-then-is_write
+    (λ c. search (tests, c.if-is_write.false, ← c.is_write.ensures))  -- returns
     )

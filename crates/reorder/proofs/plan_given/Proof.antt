@@ -9,22 +9,22 @@ unfolding given_of
 plan_given_spec =
     tie.close
     (tie.spec
-    (λ c. search rules)  -- enum_told
-    (λ c. search rules)  -- enum-known-plan
-    (λ c κs. search rules)  -- core-given-requires
-    (λ c. search rules)  -- enum-known-plan-2
-    (λ c κs. search rules)  -- tree-given-requires
-    (λ c. search rules)  -- enum-told-2
-    (λ c. search rules)  -- enum-told-3
-    (λ c. search rules)  -- enum-told-4
-    (λ c. search rules)  -- enum-told-5
-    (λ c. search rules)  -- enum-told-6
-    (λ c. search (tests, c.enum_told.given.1))  -- returns
-    (λ c. search (tests, ← c.core-given.ensures, c.before.before.plan.given.1))  -- returns-2
-    (λ c. search (tests, ← c.tree-given.ensures, c.before.before.plan2.given.1))  -- returns-3
-    (λ c. search (tests, c.enum-told2.given.1))  -- returns-4
-    (λ c. search (tests, c.enum-told3.given.1))  -- returns-5
-    (λ c. search (tests, c.enum-told4.given.1))  -- returns-6
-    (λ c. search (tests, c.enum-told5.given.1))  -- returns-7
-    (λ c. search (tests, c.enum-told6.given.1))  -- returns-8
+    (λ c. search rules)  -- enum_told-1
+    (λ c. search rules)  -- enum_known-plan
+    (λ c κs. search rules)  -- core_given-requires
+    (λ c. search rules)  -- enum_known-plan-in-WriteTree-1
+    (λ c κs. search rules)  -- tree_given-requires
+    (λ c. search rules)  -- enum_told-in-ReadCore
+    (λ c. search rules)  -- enum_told-in-ReadTree
+    (λ c. search rules)  -- enum_told-in-ChangeTree
+    (λ c. search rules)  -- enum_told-in-Window
+    (λ c. search rules)  -- enum_told-in-Reset
+    (λ c. search (tests, c.in-Refuse.is))  -- returns-in-Refuse
+    (λ c. search (tests, ← c.core_given.ensures, c.in-WriteCore.is))  -- returns-in-WriteCore
+    (λ c. search (tests, ← c.tree_given.ensures, c.in-WriteTree.is))  -- returns-in-WriteTree
+    (λ c. search (tests, c.in-ReadCore.is))  -- returns-in-ReadCore
+    (λ c. search (tests, c.in-ReadTree.is))  -- returns-in-ReadTree
+    (λ c. search (tests, c.in-ChangeTree.is))  -- returns-in-ChangeTree
+    (λ c. search (tests, c.in-Window.is))  -- returns-in-Window
+    (λ c. search (tests, c.in-Reset.is))  -- returns-in-Reset
     )

@@ -9,13 +9,13 @@ unfolding tree_given
 tree_given_spec =
     tie.close
     (tie.spec
-    (λ c. search rules)  -- enum-known-write
-    (λ c κs. search rules)  -- bits-of-requires
-    (λ c. search rules)  -- enum-known-write-2
-    (λ c κs. search rules)  -- gate-given-requires
-    (λ c. search rules)  -- enum-known-write-3
-    (λ c κs. search rules)  -- bits-of-requires-2
-    (λ c. search (tests, ← c.bits_of.ensures, c.before.before.write.given.1))  -- returns
-    (λ c. search (tests, ← c.gate-given.ensures, c.before.before.write2.given.1))  -- returns-2
-    (λ c. search (tests, ← c.bits-of2.ensures, c.before.before.write3.given.1))  -- returns-3
+    (λ c. search rules)  -- enum_known-write
+    (λ c κs. search rules)  -- bits_of-requires
+    (λ c. search rules)  -- enum_known-write-in-Gate-1
+    (λ c κs. search rules)  -- gate_given-requires
+    (λ c. search rules)  -- enum_known-write-in-Node-1
+    (λ c κs. search rules)  -- bits_of-requires-in-Node
+    (λ c. search (tests, ← c.bits_of.ensures, c.in-Bridge.is))  -- returns-in-Bridge
+    (λ c. search (tests, ← c.gate_given.ensures, c.in-Gate.is))  -- returns-in-Gate
+    (λ c. search (tests, ← c.bits_of-in-Node.ensures, c.in-Node.is))  -- returns-in-Node
     )
