@@ -14,9 +14,9 @@ bits_below_spec =
     tie.close
     (tie.spec
     (λ c κs. search rules)  -- put-requires
-    (λ c. rw (c.put.ensures, put_one 64 _ c.before.if1.true) (pow_pos c.before.before.args.width))  -- sub-result
+    (λ c. rw (c.put.ensures, put_one 64 _ c.if-width-lt64.true) (pow_pos c.args.width))  -- overflow_sub-result
     (λ c.
-    let w = c.before.before.args.width
-    in rw (c.put.ensures, put_one 64 w c.before.if1.true) (is_word 64 (omega (arith, pow-lt {i = w} {j = 64} c.before.if1.true)) (λ i l. bit_ones w i)))  -- returns
-    (λ c. is_word 64 (search rules) (λ i l. bit_ones 64 i ∙ lt-ltb i 64 l ∙ sym (lt-ltb i c.before.args.width (omega (arith, c.if1.false)))))  -- returns-2
+    let w = c.args.width
+    in rw (c.put.ensures, put_one 64 w c.if-width-lt64.true) (is_word 64 (omega (arith, pow-lt {i = w} {j = 64} c.if-width-lt64.true)) (λ i l. bit_ones w i)))  -- returns-then-width-lt64
+    (λ c. is_word 64 (search rules) (λ i l. bit_ones 64 i ∙ lt-ltb i 64 l ∙ sym (lt-ltb i c.args.width (omega (arith, c.if-width-lt64.false)))))  -- returns-else-width-lt64
     )

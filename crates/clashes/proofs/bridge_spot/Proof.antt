@@ -7,13 +7,13 @@ pub bridge_spot_spec : {M : Type 1} → statement M
 bridge_spot_spec =
     tie.close
     (tie.spec
-    (λ c. search rules)  -- enum_told
+    (λ c. search rules)  -- enum_told-1
     (λ c κs. search rules)  -- one-requires
-    (λ c. search rules)  -- enum-told-2
-    (λ c κs. search rules)  -- one-requires-2
-    (λ c. search rules)  -- enum-known-cell
-    (λ c κs. search rules)  -- one-of-requires
-    (λ c. search (tests, ← c.one.ensures, c.before.enum_told.given.1))  -- returns
-    (λ c. search (tests, ← c.one2.ensures, c.before.enum-told2.given.1))  -- returns-2
-    (λ c. search (tests, ← c.one_of_lem.ensures, c.before.before.cell.given.1))  -- returns-3
+    (λ c. search rules)  -- enum_told-in-Msi
+    (λ c κs. search rules)  -- one-requires-in-Msi
+    (λ c. search rules)  -- enum_known-cell
+    (λ c κs. search rules)  -- one_of-requires
+    (λ c. search (tests, ← c.one.ensures, c.in-Mask.is))  -- returns-in-Mask
+    (λ c. search (tests, ← c.one-in-Msi.ensures, c.in-Msi.is))  -- returns-in-Msi
+    (λ c. search (tests, ← c.one_of.ensures, c.in-Route.is))  -- returns-in-Route
     )

@@ -10,19 +10,17 @@ pub clash_bits_spec : {M : Type 1} → statement M
 clash_bits_spec =
     tie.close
     (tie.spec
-    (λ c κs. search rules)  -- spot-of-requires
-    (λ c κs. search rules)  -- spot-of-requires-2
-    (λ c κs. search rules)  -- same-spot-requires
-    (λ c κs. search rules)  -- bits-below-requires
+    (λ c κs. search rules)  -- spot_of-s-requires
+    (λ c κs. search rules)  -- spot_of-t-requires
+    (λ c κs. search rules)  -- same_spot-requires
+    (λ c κs. search rules)  -- bits_below-requires
     (λ c κs. search rules)  -- opposite-requires
     (λ c.
-    let p = c.before.before.before
-    in let a = p.before.before.before.args
-    in let one : same a.a a.b ≡ true = rw (p.before.before.spot_of_lem.ensures, p.before.spot-of2.ensures) at (sym p.same_spot.ensures ∙ c.before.before.if1.true)
-    in c.opposite.ensures ∙ rw (c.before.bits_below.ensures, p.before.before.spot_of_lem.ensures) (sym (clash_bits_lem a.a a.b a.m a.n a.x a.y one)))  -- returns
+    let a = c.args
+    in let one : same a.a a.b ≡ true = rw (c.spot_of-s.ensures, c.spot_of-t.ensures) at (sym c.same_spot.ensures ∙ c.if-same_spot.true)
+    in c.opposite.ensures ∙ rw (c.bits_below.ensures, c.spot_of-s.ensures) (sym (clash_bits_lem a.a a.b a.m a.n a.x a.y one)))  -- returns-then-same_spot
     (λ c.
-    let p = c.before
-    in let a = p.before.before.before.args
-    in let two : same a.a a.b ≡ false = rw (p.before.before.spot_of_lem.ensures, p.before.spot-of2.ensures) at (sym p.same_spot.ensures ∙ c.if1.false)
-    in sym (no_clash a.a a.b a.m a.n a.x a.y two))  -- returns-2
+    let a = c.args
+    in let two : same a.a a.b ≡ false = rw (c.spot_of-s.ensures, c.spot_of-t.ensures) at (sym c.same_spot.ensures ∙ c.if-same_spot.false)
+    in sym (no_clash a.a a.b a.m a.n a.x a.y two))  -- returns
     )

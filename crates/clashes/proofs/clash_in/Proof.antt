@@ -6,6 +6,6 @@ pub clash_in_spec : {M : Type 1} → statement M
 clash_in_spec =
     tie.close
     (tie.spec
-    (λ c. search (tests, c.if1.true))  -- returns
-    (λ c. search (tests, c.if1.false))  -- returns-2
+    (λ c. search (tests, c.if-bits-eq0.true))  -- returns-then-bits-eq0
+    (λ c. search (tests, c.if-bits-eq0.false))  -- returns
     )

@@ -10,12 +10,12 @@ unfolding clash_bits order.clash
 clash_with_spec =
     tie.close
     (tie.spec
-    (λ c. search rules)  -- enum_told
-    (λ c. search rules)  -- enum-told-2
-    (λ c. search rules)  -- enum-known-given
-    (λ c κs. search rules)  -- clash-bits-requires
-    (λ c κs. search rules)  -- clash-in-requires
-    (λ c. search (tests, c.enum_told.given.1))  -- returns
-    (λ c. search (tests, c.enum-told2.given.1))  -- returns-2
-    (λ c. search (tests, ← c.clash-in.ensures, ← c.before.clash-bits.ensures, c.before.before.before.given.given.1))  -- returns-3
+    (λ c. search rules)  -- enum_told-1
+    (λ c. search rules)  -- enum_told-in-Nothing
+    (λ c. search rules)  -- enum_known-given
+    (λ c κs. search rules)  -- clash_bits-requires
+    (λ c κs. search rules)  -- clash_in-requires
+    (λ c. search (tests, c.in-NotListed.is))  -- returns-in-NotListed
+    (λ c. search (tests, c.in-Nothing.is))  -- returns-in-Nothing
+    (λ c. search (tests, ← c.clash_in.ensures, ← c.clash_bits.ensures, c.in-Bits.is))  -- returns-in-Bits
     )

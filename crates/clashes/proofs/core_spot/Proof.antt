@@ -7,13 +7,13 @@ pub core_spot_spec : {M : Type 1} → statement M
 core_spot_spec =
     tie.close
     (tie.spec
-    (λ c. search rules)  -- enum_told
+    (λ c. search rules)  -- enum_told-1
     (λ c κs. search rules)  -- one-requires
-    (λ c. search rules)  -- enum-told-2
-    (λ c κs. search rules)  -- one-requires-2
-    (λ c. search rules)  -- enum-known-cell
-    (λ c κs. search rules)  -- one-of-requires
-    (λ c. search (tests, ← c.one.ensures, c.before.enum_told.given.1))  -- returns
-    (λ c. search (tests, ← c.one2.ensures, c.before.enum-told2.given.1))  -- returns-2
-    (λ c. search (tests, ← c.one_of_lem.ensures, c.before.before.cell.given.1))  -- returns-3
+    (λ c. search rules)  -- enum_told-in-Enable
+    (λ c κs. search rules)  -- one-requires-in-Enable
+    (λ c. search rules)  -- enum_known-cell
+    (λ c κs. search rules)  -- one_of-requires
+    (λ c. search (tests, ← c.one.ensures, c.in-Status.is))  -- returns-in-Status
+    (λ c. search (tests, ← c.one-in-Enable.ensures, c.in-Enable.is))  -- returns-in-Enable
+    (λ c. search (tests, ← c.one_of.ensures, c.in-MailBox.is))  -- returns-in-MailBox
     )

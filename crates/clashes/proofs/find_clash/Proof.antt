@@ -9,13 +9,13 @@ unfolding clash_of
 find_clash_spec =
     tie.close
     (tie.spec
-    (λ c κs. search rules)  -- bits-given-requires
-    (λ c κs. search rules)  -- bits-given-requires-2
-    (λ c. search rules)  -- enum_told
-    (λ c. search rules)  -- enum-told-2
-    (λ c. search rules)  -- enum-known-cell
-    (λ c κs. search rules)  -- clash-with-requires
-    (λ c. search (tests, c.enum_told.given.1, ← c.before.before.bits-given2.ensures, ← c.before.before.before.bits-given.ensures))  -- returns
-    (λ c. search (tests, c.enum-told2.given.1, ← c.before.before.bits-given2.ensures, ← c.before.before.before.bits-given.ensures))  -- returns-2
-    (λ c. search (tests, ← c.clash-with.ensures, c.before.before.cell.given.1, ← c.before.before.before.before.bits-given2.ensures, ← c.before.before.before.before.before.bits-given.ensures))  -- returns-3
+    (λ c κs. search rules)  -- bits_given-other-requires
+    (λ c κs. search rules)  -- bits_given-requires
+    (λ c. search rules)  -- enum_told-1
+    (λ c. search rules)  -- enum_told-in-Nothing
+    (λ c. search rules)  -- enum_known-cell
+    (λ c κs. search rules)  -- clash_with-requires
+    (λ c. search (tests, c.in-NotListed.is, ← c.bits_given.ensures, ← c.bits_given-other.ensures))  -- returns-in-NotListed
+    (λ c. search (tests, c.in-Nothing.is, ← c.bits_given.ensures, ← c.bits_given-other.ensures))  -- returns-in-Nothing
+    (λ c. search (tests, ← c.clash_with.ensures, c.in-Bits.is, ← c.bits_given.ensures, ← c.bits_given-other.ensures))  -- returns-in-Bits
     )

@@ -7,10 +7,10 @@ pub node_spot_spec : {M : Type 1} → statement M
 node_spot_spec =
     tie.close
     (tie.spec
-    (λ c. search rules)  -- enum_told
+    (λ c. search rules)  -- enum_told-1
     (λ c κs. search rules)  -- one-requires
-    (λ c. search rules)  -- enum-known-cell
-    (λ c κs. search rules)  -- one-of-requires
-    (λ c. search (tests, ← c.one.ensures, c.before.enum_told.given.1))  -- returns
-    (λ c. search (tests, ← c.one_of_lem.ensures, c.before.before.cell.given.1))  -- returns-2
+    (λ c. search rules)  -- enum_known-cell
+    (λ c κs. search rules)  -- one_of-requires
+    (λ c. search (tests, ← c.one.ensures, c.in-Inten.is))  -- returns-in-Inten
+    (λ c. search (tests, ← c.one_of.ensures, c.in-Entry.is))  -- returns-in-Entry
     )

@@ -6,6 +6,6 @@ pub one_of_spec : {M : Type 1} → statement M
 one_of_spec =
     tie.close
     (tie.spec
-    (λ c. search (tests, c.if1.true))  -- returns
-    (λ c. search (tests, c.if1.false))  -- returns-2
+    (λ c. search (tests, c.if-index-count.true))  -- returns-then-index-count
+    (λ c. search (tests, c.if-index-count.false))  -- returns-else-index-count
     )

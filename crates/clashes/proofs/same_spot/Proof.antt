@@ -6,7 +6,7 @@ pub same_spot_spec : {M : Type 1} → statement M
 same_spot_spec =
     tie.close
     (tie.spec
-    (λ c. rw (ne_eqb _ _ c.if1.true))  -- returns
-    (λ c. rw (eq-eqb _ _ c.before.before.before.if1.false, ne_eqb _ _ c.if2.true))  -- returns-2
-    (λ c. rw (eq-eqb _ _ c.before.before.before.before.before.if1.false, eq-eqb _ _ c.before.before.if2.false))  -- returns-3
+    (λ c. rw (ne_eqb _ _ c.if-s-t.true))  -- returns-then-s-t
+    (λ c. rw (eq-eqb _ _ c.if-s-t.false, ne_eqb _ _ c.if-s-t-2.true))  -- returns-then-s-t-2
+    (λ c. rw (eq-eqb _ _ c.if-s-t.false, eq-eqb _ _ c.if-s-t-2.false))  -- returns
     )
