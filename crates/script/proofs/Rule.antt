@@ -24,6 +24,7 @@ module _ (o : Bool) where
   -- w clashes with no write of a list that has no clash with it
   with_zero : (w : Step) (ws : List Step) → clashes_with o w ws ≡ 0 → (b : Step) → b ∈ ws → clash_of o w b ≡ Free
   unfolding clashes_with
+  with_zero w [] z b m = elim m [ ]
   with_zero w (v ∷ ws) z b (here e) = rw e (uncounted (clash_of o w v) (omega arith))
   with_zero w (v ∷ ws) z b (there m) = with_zero w ws (omega arith) b m
 
@@ -34,6 +35,7 @@ module _ (o : Bool) where
 
   zero_free : (ws : List Step) → clash_count o ws ≡ 0 → (a b : Step) → a ∈ ws → b ∈ ws → clash_of o a b ≡ Free
   unfolding clash_count
+  zero_free [] z a b m n = elim m [ ]
   zero_free (w ∷ ws) z a b (here p) (here q) = rw (p, q) (clash_itself o w)
   zero_free (w ∷ ws) z a b (here p) (there n) = rw p (with_zero w ws (omega arith) b n)
   zero_free (w ∷ ws) z a b (there m) (here q) = rw q (clash_turned o w a (with_zero w ws (omega arith) a m))

@@ -8,8 +8,8 @@ unfolding of_bridge
 read_of_spec =
     tie.close
     (tie.spec
-    (λ c. search rules)  -- enum_told
-    (λ c. search rules)  -- enum-known-named
-    (λ c. rw c.enum_told.given.1)  -- returns
-    (λ c. rw c.before.named.given.1)  -- returns-2
+    (λ c. search rules)  -- enum_told-1
+    (λ c. search rules)  -- enum_known-named
+    (λ c. rw c.in-Unknown.is)  -- returns-in-Unknown
+    (λ c. rw c.in-Register.is)  -- returns-in-Register
     )

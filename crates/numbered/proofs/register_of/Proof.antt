@@ -8,16 +8,16 @@ unfolding names register_at
 register_of_spec =
     tie.close
     (tie.spec
-    (λ c. rw c.match.keys1)  -- returns
-    (λ c. rw c.match.keys2)  -- returns-2
-    (λ c. rw c.match.keys3)  -- returns-3
-    (λ c. rw c.match.keys4)  -- returns-4
-    (λ c. rw c.match.keys5)  -- returns-5
-    (λ c. rw c.match.keys6)  -- returns-6
-    (λ c. rw c.match.keys7)  -- returns-7
-    (λ c. rw c.match.keys8)  -- returns-8
-    (λ c. rw c.match.keys9)  -- returns-9
-    (λ c. rw c.match.keys10)  -- returns-10
-    (λ c. rw c.match.keys11)  -- returns-11
-    (λ c. search (tests, c.match.rest))  -- returns-12
+    (λ c. rw c.in-0.is)  -- returns-in-0
+    (λ c. rw c.in-1.is)  -- returns-in-1
+    (λ c. rw c.in-2.is)  -- returns-in-2
+    (λ c. rw c.in-3.is)  -- returns-in-3
+    (λ c. rw c.in-4.is)  -- returns-in-4
+    (λ c. rw c.in-5.is)  -- returns-in-5
+    (λ c. rw c.in-6.is)  -- returns-in-6
+    (λ c. rw c.in-7.is)  -- returns-in-7
+    (λ c. rw c.in-8.is)  -- returns-in-8
+    (λ c. rw c.in-9.is)  -- returns-in-9
+    (λ c. rw c.in-10.is)  -- returns-in-10
+    (λ c. search (tests, c.in_default.in_default-own.rest))  -- returns-in_default
     )

@@ -9,24 +9,24 @@ unfolding kinds step_at
 step_of_spec =
     tie.close
     (tie.spec
-    (λ c κs. search rules)  -- register-of-requires
-    (λ c κs. search rules)  -- read-of-requires
-    (λ c κs. search rules)  -- register-of-requires-2
-    (λ c κs. search rules)  -- write-of-requires
+    (λ c κs. search rules)  -- register_of-requires
+    (λ c κs. search rules)  -- read_of-requires
+    (λ c κs. search rules)  -- register_of-requires-in-5
+    (λ c κs. search rules)  -- write_of-requires
     (λ c κs. search rules)  -- input-requires
     (λ c κs. search rules)  -- window-requires
-    (λ c κs. search rules)  -- node-input-requires
+    (λ c κs. search rules)  -- node_input-requires
     (λ c κs. search rules)  -- which-requires
-    (λ c. rw c.match.keys1)  -- returns
-    (λ c. rw c.match.keys2)  -- returns-2
-    (λ c. rw c.match.keys3)  -- returns-3
-    (λ c. rw c.match.keys4)  -- returns-4
-    (λ c. rw (c.Read-of.ensures, c.before.register_of.ensures, c.before.before.match.keys5))  -- returns-5
-    (λ c. rw (c.write-of.ensures, c.before.register-of2.ensures, c.before.before.match.keys6))  -- returns-6
-    (λ c. rw (c.input.ensures, c.before.match.keys7))  -- returns-7
-    (λ c. rw (c.window.ensures, c.before.match.keys8))  -- returns-8
-    (λ c. rw c.match.keys9)  -- returns-9
-    (λ c. rw (c.node-input.ensures, c.before.match.keys10))  -- returns-10
-    (λ c. rw (c.which.ensures, c.before.match.keys11))  -- returns-11
-    (λ c. search (tests, c.match.rest))  -- returns-12
+    (λ c. rw c.in-0.is)  -- returns-in-0
+    (λ c. rw c.in-1.is)  -- returns-in-1
+    (λ c. rw c.in-2.is)  -- returns-in-2
+    (λ c. rw c.in-3.is)  -- returns-in-3
+    (λ c. rw (c.read_of.ensures, c.register_of.ensures, c.in-4.is))  -- returns-in-4
+    (λ c. rw (c.write_of.ensures, c.register_of-in-5.ensures, c.in-5.is))  -- returns-in-5
+    (λ c. rw (c.input.ensures, c.in-6.is))  -- returns-in-6
+    (λ c. rw (c.window.ensures, c.in-7.is))  -- returns-in-7
+    (λ c. rw c.in-8.is)  -- returns-in-8
+    (λ c. rw (c.node_input.ensures, c.in-9.is))  -- returns-in-9
+    (λ c. rw (c.which.ensures, c.in-10.is))  -- returns-in-10
+    (λ c. search (tests, c.in_default.in_default-own.rest))  -- returns-in_default
     )

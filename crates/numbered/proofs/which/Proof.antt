@@ -8,7 +8,7 @@ unfolding flagged
 which_spec =
     tie.close
     (tie.spec
-    (λ c. rw c.match.keys1)  -- returns
-    (λ c. rw c.match.keys2)  -- returns-2
-    (λ c. search (tests, c.match.rest))  -- returns-3
+    (λ c. rw c.in-0.is)  -- returns-in-0
+    (λ c. rw c.in-1.is)  -- returns-in-1
+    (λ c. search (tests, c.in_default.in_default-own.rest))  -- returns-in_default
     )

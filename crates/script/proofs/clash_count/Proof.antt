@@ -10,13 +10,13 @@ clash_count_spec =
     tie.close
     (tie.spec
     (λ c κs. search rules)  -- compared-requires
-    (λ c κs. search rules)  -- clashes-among-requires
-    (λ c. (c.clashes-among.ensures, block_rule _ c.before.before.before.compared.ensures.1 _))  -- returns
-    (λ c κs. search rules)  -- clashes-among-requires-2
+    (λ c κs. search rules)  -- clashes_among-requires
+    (λ c. (c.clashes_among.ensures, block_rule _ c.compared.ensures.1 _))  -- returns-then-n-lt256
+    (λ c κs. search rules)  -- clashes_among-requires-2
     (λ c.
-    let a = c.before.before.before.before.args
+    let a = c.args
     in (
-      rw (steps_all a.n 256 a.block.now (omega arith) (omega arith)) c.clashes-among2.ensures,
-      block_rule _ c.before.before.before.compared.ensures.1 _,
-    ))  -- returns-2
+      rw (steps_all a.n 256 a.block.now (omega arith) (omega arith)) c.clashes_among-2.ensures,
+      block_rule _ c.compared.ensures.1 _,
+    ))  -- returns
     )

@@ -10,11 +10,11 @@ use Rattle.script.proofs.Counts.{count_more, count_none, with_below}
 use Rattle.script.proofs.clashes_among.Statement.{statement}
 use Rattle.script.proofs.clashes_among.Tie as tie
 
-abbrev invariant_loop : tie.invariant_loop
+abbrev invariant_loop : tie.invariant-loop-i
 invariant_loop lines n second-open count₀ i₀ count i =
     (i ≤ n) × (count + 256 * i ≤ 256 * n) × (count ≡ clash_count second-open (drop i (line_steps n lines)))
 
-abbrev decreases_loop : tie.decreases_loop
+abbrev decreases_loop : tie.decreases-loop-i
 decreases_loop lines n second-open count₀ i₀ count i = i
 
 pub clashes_among_spec : {M : Type 1} → statement M
@@ -24,10 +24,10 @@ clashes_among_spec =
     invariant_loop
     decreases_loop
     (λ c. (search rules, search rules, count_none _ _ c.requires.1 _))  -- loop-holds
-    (λ c. search rules)  -- sub-i
-    (λ c κs. search rules)  -- clashes-after-requires
-    (λ c. omega (arith, with_below _ _ c.before.before.before.requires.1 _ _ (c.before.before.loop.i - 1 + 1) _ c.clashes-after.ensures))  -- add-count
+    (λ c. search rules)  -- overflow_sub-i
+    (λ c κs. search rules)  -- clashes_after-count-requires
+    (λ c. omega (arith, with_below _ _ c.requires.1 _ _ (c.loop-i.i - 1 + 1) _ c.clashes_after-count.ensures))  -- overflow_add-count
     (λ c. search rules)  -- loop-less
-    (λ c. (search rules, omega (arith, with_below _ _ c.before.before.before.requires.1 _ _ (c.before.before.loop.i - 1 + 1) _ c.clashes-after.ensures), rw c.clashes-after.ensures (count_more _ _ c.before.before.before.requires.1 _ c.before.before.loop.i _ c.before.before.loop.invariant.2 (omega arith) (omega arith))))  -- loop-again
-    (λ c. let e : c.before.loop.i ≡ 0 = omega arith in rw e at c.before.loop.invariant.2)  -- returns
+    (λ c. (search rules, omega (arith, with_below _ _ c.requires.1 _ _ (c.loop-i.i - 1 + 1) _ c.clashes_after-count.ensures), rw c.clashes_after-count.ensures (count_more _ _ c.requires.1 _ c.loop-i.i _ c.loop-i.invariant.2 (omega arith) (omega arith))))  -- loop-again
+    (λ c. let e : c.loop-i.i ≡ 0 = omega arith in rw e at c.loop-i.invariant.2)  -- returns
     )

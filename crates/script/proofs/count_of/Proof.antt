@@ -8,8 +8,8 @@ unfolding counted
 count_of_spec =
     tie.close
     (tie.spec
-    (λ c. search rules)  -- enum_told
-    (λ c. search rules)  -- enum-told-2
-    (λ c. rw c.enum_told.given.1)  -- returns
-    (λ c. rw c.enum-told2.given.1)  -- returns-2
+    (λ c. search rules)  -- enum_told-1
+    (λ c. search rules)  -- enum_told-in-On
+    (λ c. rw c.in-Free.is)  -- returns-in-Free
+    (λ c. rw c.in-On.is)  -- returns-in-On
     )

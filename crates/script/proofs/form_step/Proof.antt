@@ -9,59 +9,59 @@ unfolding form_step forms
 form_step_spec =
     tie.close
     (tie.spec
-    (λ c. search rules)  -- array-read-match
-    (λ c. search rules)  -- array-read-step-of
-    (λ c. search rules)  -- array-read-step-of-2
-    (λ c κs. search rules)  -- step-of-requires
-    (λ c. search rules)  -- array-read-step-of-3
-    (λ c. search rules)  -- array-read-step-of-4
-    (λ c. search rules)  -- array-read-step-of-5
-    (λ c κs. search rules)  -- step-of-requires-2
-    (λ c. search rules)  -- array-read-step-of-6
-    (λ c. search rules)  -- array-read-step-of-7
-    (λ c. search rules)  -- array-read-step-of-8
-    (λ c κs. search rules)  -- step-of-requires-3
-    (λ c. search rules)  -- array-read-step-of-9
-    (λ c. search rules)  -- array-read-step-of-10
-    (λ c. search rules)  -- array-read-step-of-11
-    (λ c. search rules)  -- array-read-step-of-12
-    (λ c κs. search rules)  -- step-of-requires-4
-    (λ c. search rules)  -- array-read-step-of-13
-    (λ c κs. search rules)  -- step-of-requires-5
-    (λ c. search rules)  -- array-read-step-of-14
-    (λ c. search rules)  -- array-read-step-of-15
-    (λ c κs. search rules)  -- step-of-requires-6
-    (λ c. search rules)  -- array-read-step-of-16
-    (λ c. search rules)  -- array-read-step-of-17
-    (λ c κs. search rules)  -- step-of-requires-7
-    (λ c κs. search rules)  -- step-of-requires-8
-    (λ c κs. search rules)  -- step-of-requires-9
-    (λ c. search rules)  -- array-read-step-of-18
-    (λ c. search rules)  -- array-read-step-of-19
-    (λ c κs. search rules)  -- step-of-requires-10
-    (λ c. search rules)  -- array-read-step-of-20
-    (λ c κs. search rules)  -- step-of-requires-11
-    (λ c. search rules)  -- array-read-step-of-21
-    (λ c. search rules)  -- array-read-step-of-22
-    (λ c κs. search rules)  -- step-of-requires-12
-    (λ c. search rules)  -- array-read-step-of-23
-    (λ c. search rules)  -- array-read-step-of-24
-    (λ c. search rules)  -- array-read-step-of-25
-    (λ c κs. search rules)  -- step-of-requires-13
-    (λ c κs. search rules)  -- step-of-requires-14
-    (λ c. rw (c.step_of_lem.ensures, c.before.match.keys1))  -- returns
-    (λ c. rw (c.step-of2.ensures, c.before.match.keys2))  -- returns-2
-    (λ c. rw (c.step-of3.ensures, c.before.match.keys3))  -- returns-3
-    (λ c. rw (c.step-of4.ensures, c.before.match.keys4))  -- returns-4
-    (λ c. rw (c.step-of5.ensures, c.before.match.keys5))  -- returns-5
-    (λ c. rw (c.step-of6.ensures, c.before.match.keys6))  -- returns-6
-    (λ c. rw (c.step-of7.ensures, c.before.match.keys7))  -- returns-7
-    (λ c. rw (c.step-of8.ensures, c.before.match.keys8))  -- returns-8
-    (λ c. rw (c.step-of9.ensures, c.before.match.keys9))  -- returns-9
-    (λ c. rw (c.step-of10.ensures, c.before.match.keys10))  -- returns-10
-    (λ c. rw (c.step-of11.ensures, c.before.match.keys11))  -- returns-11
-    (λ c. rw (c.step-of12.ensures, c.before.match.keys12))  -- returns-12
-    (λ c. rw (c.step-of13.ensures, c.before.match.keys13))  -- returns-13
-    (λ c. rw (c.step-of14.ensures, c.before.match.keys14))  -- returns-14
-    (λ c. search (tests, c.match.rest))  -- returns-15
+    (λ c. search rules)  -- bounds-v-0
+    (λ c. search rules)  -- bounds-v-2
+    (λ c. search rules)  -- bounds-v-3
+    (λ c κs. search rules)  -- step_of-requires
+    (λ c. search rules)  -- bounds-v-2-in-1
+    (λ c. search rules)  -- bounds-v-3-in-1
+    (λ c. search rules)  -- bounds-v-4
+    (λ c κs. search rules)  -- step_of-requires-in-1
+    (λ c. search rules)  -- bounds-v-1
+    (λ c. search rules)  -- bounds-v-3-in-2
+    (λ c. search rules)  -- bounds-v-4-in-2
+    (λ c κs. search rules)  -- step_of-requires-in-2
+    (λ c. search rules)  -- bounds-v-1-in-3
+    (λ c. search rules)  -- bounds-v-3-in-3
+    (λ c. search rules)  -- bounds-v-4-in-3
+    (λ c. search rules)  -- bounds-v-5
+    (λ c κs. search rules)  -- step_of-requires-in-3
+    (λ c. search rules)  -- bounds-v-2-in-4
+    (λ c κs. search rules)  -- step_of-requires-in-4
+    (λ c. search rules)  -- bounds-v-2-in-5
+    (λ c. search rules)  -- bounds-v-3-in-5
+    (λ c κs. search rules)  -- step_of-requires-in-5
+    (λ c. search rules)  -- bounds-v-1-in-6
+    (λ c. search rules)  -- bounds-v-2-in-6
+    (λ c κs. search rules)  -- step_of-requires-in-6
+    (λ c κs. search rules)  -- step_of-requires-in-7
+    (λ c κs. search rules)  -- step_of-requires-in-8
+    (λ c. search rules)  -- bounds-v-2-in-9
+    (λ c. search rules)  -- bounds-v-3-in-9
+    (λ c κs. search rules)  -- step_of-requires-in-9
+    (λ c. search rules)  -- bounds-v-1-in-10
+    (λ c κs. search rules)  -- step_of-requires-in-10
+    (λ c. search rules)  -- bounds-v-2-in-11
+    (λ c. search rules)  -- bounds-v-3-in-11
+    (λ c κs. search rules)  -- step_of-requires-in-11
+    (λ c. search rules)  -- bounds-v-2-in-12
+    (λ c. search rules)  -- bounds-v-3-in-12
+    (λ c. search rules)  -- bounds-v-4-in-12
+    (λ c κs. search rules)  -- step_of-requires-in-12
+    (λ c κs. search rules)  -- step_of-requires-in-13
+    (λ c. rw (c.step_of.ensures, c.in-0.is))  -- returns-in-0
+    (λ c. rw (c.step_of-in-1.ensures, c.in-1.is))  -- returns-in-1
+    (λ c. rw (c.step_of-in-2.ensures, c.in-2.is))  -- returns-in-2
+    (λ c. rw (c.step_of-in-3.ensures, c.in-3.is))  -- returns-in-3
+    (λ c. rw (c.step_of-in-4.ensures, c.in-4.is))  -- returns-in-4
+    (λ c. rw (c.step_of-in-5.ensures, c.in-5.is))  -- returns-in-5
+    (λ c. rw (c.step_of-in-6.ensures, c.in-6.is))  -- returns-in-6
+    (λ c. rw (c.step_of-in-7.ensures, c.in-7.is))  -- returns-in-7
+    (λ c. rw (c.step_of-in-8.ensures, c.in-8.is))  -- returns-in-8
+    (λ c. rw (c.step_of-in-9.ensures, c.in-9.is))  -- returns-in-9
+    (λ c. rw (c.step_of-in-10.ensures, c.in-10.is))  -- returns-in-10
+    (λ c. rw (c.step_of-in-11.ensures, c.in-11.is))  -- returns-in-11
+    (λ c. rw (c.step_of-in-12.ensures, c.in-12.is))  -- returns-in-12
+    (λ c. rw (c.step_of-in-13.ensures, c.in-13.is))  -- returns-in-13
+    (λ c. search (tests, c.in_default.in_default-own.rest))  -- returns-in_default
     )

@@ -8,7 +8,7 @@ unfolding line_step
 step_of_spec =
     tie.close
     (tie.spec
-    (λ c κs. search rules)  -- form-step-requires
-    (λ c κs. search rules)  -- known-or-requires
-    (λ c. rw (c.known-or.ensures, c.before.form-step.ensures))  -- returns
+    (λ c κs. search rules)  -- form_step-requires
+    (λ c κs. search rules)  -- known_or-requires
+    (λ c. rw (c.known_or.ensures, c.form_step.ensures))  -- returns
     )

@@ -8,8 +8,8 @@ unfolding known_or
 known_or_spec =
     tie.close
     (tie.spec
-    (λ c. search rules)  -- enum_told
-    (λ c. search rules)  -- enum-known-self
-    (λ c. rw c.enum_told.given.1)  -- returns
-    (λ c. rw c.before.self.given.1)  -- returns-2
+    (λ c. search rules)  -- enum_told-1
+    (λ c. search rules)  -- enum_known-self
+    (λ c. rw c.in-Unknown.is)  -- returns-in-Unknown
+    (λ c. rw c.in-Step.is)  -- returns-in-Step
     )
