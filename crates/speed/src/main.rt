@@ -9,9 +9,10 @@ use answers::{Answer, Outcome};
 use bridge::Bridge;
 use cores::Core;
 use device::Device;
-use libc::STDOUT_FILENO;
 use node::Node;
 use numbered::{RESET, WINDOW_SWITCH, step_of};
+use std::io;
+use std::rt::Env;
 use steps::Step;
 
 // The next draw of the xorshift.
@@ -128,13 +129,9 @@ fn run(rows: &[[u64; 7]; 64], n: u64) -> u64 {
     device_folded(sum, d)
 }
 
-fn print_run(name: &[u8], rows: &[[u64; 7]; 64], n: u64) {
-    io::write_all(STDOUT_FILENO, name);
-    io::write_all(STDOUT_FILENO, b" ");
-    io::print_decimal(STDOUT_FILENO, n);
-    io::write_all(STDOUT_FILENO, b" checksum 0x");
-    io::print_hex(STDOUT_FILENO, run(rows, n), 16);
-    io::write_all(STDOUT_FILENO, b"\n");
+fn print_run(rt: &impl Print, name: &str, rows: &[[u64; 7]; 64], n: u64) -> io::Result<()> {
+    let sum = run(rows, n);
+    println!(rt; "{name} {n} checksum 0x{sum:016x}")
 }
 
 // A number with one more decimal digit; a byte that is no digit, and one that could take it past a u64, is left out.
@@ -160,9 +157,9 @@ fn number(text: &[u8]) -> u64 {
 }
 
 // The first byte of the argument that names a mix; 0 where there is none.
-fn initial() -> u8 {
+fn initial(rt: &impl Env) -> u8 {
     let mut name = [0u8; 16];
-    let n = os::arg(2, &mut name);
+    let n = rt.arg(2, &mut name).unwrap_or(0);
     if n == 0 {
         return 0;
     }
@@ -210,49 +207,50 @@ fn tree_last(rows: &mut [[u64; 7]; 64]) {
     fill(rows, 32, &half);
 }
 
-fn messages(n: u64) {
+fn messages(rt: &impl Print, n: u64) -> io::Result<()> {
     let mut rows = [[0u64; 7]; 64];
     messages_first(&mut rows);
     messages_last(&mut rows);
-    print_run(b"messages", &rows, n);
+    print_run(rt, "messages", &rows, n)
 }
 
-fn sparse(n: u64) {
+fn sparse(rt: &impl Print, n: u64) -> io::Result<()> {
     let mut rows = [[0u64; 7]; 64];
     bridge_first(&mut rows);
     sparse_last(&mut rows);
-    print_run(b"sparse", &rows, n);
+    print_run(rt, "sparse", &rows, n)
 }
 
-fn dense(n: u64) {
+fn dense(rt: &impl Print, n: u64) -> io::Result<()> {
     let mut rows = [[0u64; 7]; 64];
     bridge_first(&mut rows);
     dense_last(&mut rows);
-    print_run(b"dense", &rows, n);
+    print_run(rt, "dense", &rows, n)
 }
 
-fn tree(n: u64) {
+fn tree(rt: &impl Print, n: u64) -> io::Result<()> {
     let mut rows = [[0u64; 7]; 64];
     bridge_first(&mut rows);
     tree_last(&mut rows);
-    print_run(b"tree", &rows, n);
+    print_run(rt, "tree", &rows, n)
 }
 
-fn main() {
-    let mut digits = io::buffer();
-    let length = os::arg(1, &mut digits);
+fn main(rt: HostRuntime) -> io::Result<()> {
+    let mut digits = [0u8; 4096];
+    let length = rt.arg(1, &mut digits).unwrap_or(0);
     let n = number(&digits[..length]);
-    let only = initial();
+    let only = initial(&rt);
     if only == 0 || only == b'm' {
-        messages(n);
+        messages(&rt, n)?;
     }
     if only == 0 || only == b's' {
-        sparse(n);
+        sparse(&rt, n)?;
     }
     if only == 0 || only == b'd' {
-        dense(n);
+        dense(&rt, n)?;
     }
     if only == 0 || only == b't' {
-        tree(n);
+        tree(&rt, n)?;
     }
+    Ok(())
 }
