@@ -2,6 +2,7 @@
 use crate::show;
 use clashes::Clash;
 use reorder::Cell;
+use std::io;
 
 // No cell, core 0's Status, and any other.
 pub(crate) const FREE: u64 = 0;
@@ -42,15 +43,14 @@ pub(crate) fn bits_of(clash: Clash) -> u64 {
     }
 }
 
-pub(crate) fn show(cell: u64, bits: u64) {
+pub(crate) fn show(rt: &impl Print, cell: u64, bits: u64) -> io::Result<()> {
     if cell == FREE {
-        show::text(b"free");
-        return;
+        return show::text(rt, b"free");
     }
     if cell == STATUS {
-        show::text(b"clash in core0.Status ");
+        show::text(rt, b"clash in core0.Status ")?;
     } else {
-        show::text(b"clash in another cell ");
+        show::text(rt, b"clash in another cell ")?;
     }
-    show::hex(bits);
+    show::hex(rt, bits)
 }

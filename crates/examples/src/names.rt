@@ -1,5 +1,6 @@
 // The names of the comparisons.
 use crate::show;
+use std::io;
 
 // Where a line of a table begins.
 fn line_start(table: &[u8], n: u64) -> usize {
@@ -18,24 +19,26 @@ fn line_start(table: &[u8], n: u64) -> usize {
 }
 
 // Prints a table from a line on, to before a place.
-fn show_part(table: &[u8], start: usize, end: usize) {
+fn show_part(rt: &impl Print, table: &[u8], start: usize, end: usize) -> io::Result<()> {
     if start < end {
         if end <= table.len() {
-            show::text(&table[start..end - 1]);
+            return show::text(rt, &table[start..end - 1]);
         }
     }
+    Ok(())
 }
 
-fn show_line(table: &[u8], n: u64) {
+fn show_line(rt: &impl Print, table: &[u8], n: u64) -> io::Result<()> {
     let start = line_start(table, n);
     let end = line_start(table, std::num::wrapping_add_u64(n, 1));
-    show_part(table, start, end);
-    show::text(b": ");
+    show_part(rt, table, start, end)?;
+    show::text(rt, b": ")
 }
 
 // The names in the order in which the comparisons are made. A table is cheaper to check than a text in every call.
-fn show_first(n: u64) {
+fn show_first(rt: &impl Print, n: u64) -> io::Result<()> {
     show_line(
+        rt,
         b"5b 0x3ff01040 closed
 5b write 0x3ff01040 closed
 5c 0x3ff00420 closed
@@ -68,11 +71,12 @@ fn show_first(n: u64) {
 9c level mode, input 3 high, INTCLR = 8
 ",
         n,
-    );
+    )
 }
 
-fn show_second(n: u64) {
+fn show_second(rt: &impl Print, n: u64) -> io::Result<()> {
     show_line(
+        rt,
         b"9c INTIRR
 10a INTCLR = 8
 10a INTIRR
@@ -102,11 +106,12 @@ fn show_second(n: u64) {
 13b AUTO_CTRL1 = 1, by Q-6
 ",
         n,
-    );
+    )
 }
 
-fn show_third(n: u64) {
+fn show_third(rt: &impl Print, n: u64) -> io::Result<()> {
     show_line(
+        rt,
         b"8.2 Entry 10 = 0xff
 8.2 Entry 10
 8.2 Entry 10 = 0x42, Intenset, node input 10 high
@@ -139,18 +144,16 @@ Q-8 Entry 10 = 0xff
 Q-8 write 0x1fe01004, 4 = 0x100000000
 ",
         n,
-    );
+    )
 }
 
 // Prints the name of comparison n.
-pub(crate) fn show_name(n: u64) {
+pub(crate) fn show_name(rt: &impl Print, n: u64) -> io::Result<()> {
     if n < 30 {
-        show_first(n);
-        return;
+        return show_first(rt, n);
     }
     if n < 57 {
-        show_second(n - 30);
-        return;
+        return show_second(rt, n - 30);
     }
-    show_third(n - 57);
+    show_third(rt, n - 57)
 }

@@ -6,10 +6,11 @@ use crate::{clash, show};
 use answers::Answer;
 use bridge_registers::Register;
 use device::Device;
+use std::io;
 use steps::Step;
 
 // What 01 says of the outcome of a step.
-#[derive(Drop)]
+#[derive(Clone, Copy)]
 enum Expected {
     Refused(u64),
     Value(u64),
@@ -20,7 +21,7 @@ enum Expected {
 }
 
 // What a step did: its answer as numbers, and whether the cells, or all that can be read of them, are as before.
-#[derive(Drop)]
+#[derive(Clone, Copy)]
 struct Got {
     refusal: u64,
     value: u64,
@@ -29,7 +30,7 @@ struct Got {
     same_reads: bool,
 }
 
-#[derive(Drop)]
+#[derive(Clone, Copy)]
 pub(crate) struct Run {
     device: Device,
     passed: u64,
@@ -62,31 +63,33 @@ fn meets(got: Got, expected: Expected) -> bool {
     }
 }
 
-fn show_expected(expected: Expected, lines: u64) {
+fn show_expected(rt: &impl Print, expected: Expected, lines: u64) -> io::Result<()> {
     match expected {
-        Expected::Refused(number) => show::refused(number),
-        Expected::Value(value) => show::value(value),
-        Expected::Accepted => show::text(b"accepted"),
-        Expected::SameReads => show::text(b"accepted, every read as before"),
+        Expected::Refused(number) => show::refused(rt, number)?,
+        Expected::Value(value) => show::value(rt, value)?,
+        Expected::Accepted => show::text(rt, b"accepted")?,
+        Expected::SameReads => show::text(rt, b"accepted, every read as before")?,
     }
     if lines != 0 {
-        show::lines(lines);
+        show::lines(rt, lines)?;
     }
+    Ok(())
 }
 
-fn show_got(got: Got) {
+fn show_got(rt: &impl Print, got: Got) -> io::Result<()> {
     if got.refusal == 0 {
-        show::value(got.value);
+        show::value(rt, got.value)?;
     } else {
-        show::refused(got.refusal);
+        show::refused(rt, got.refusal)?;
     }
-    show::lines(got.lines);
+    show::lines(rt, got.lines)?;
     if !got.same_cells {
-        show::text(b", cells changed");
+        show::text(rt, b", cells changed")?;
     }
     if !got.same_reads {
-        show::text(b", reads changed");
+        show::text(rt, b", reads changed")?;
     }
+    Ok(())
 }
 
 impl Run {
@@ -114,14 +117,14 @@ impl Run {
     }
 
     // Ends the line of a comparison, and counts it.
-    fn counted(mut self, passed: bool) -> Run {
-        show::text(b"\n");
+    fn counted(mut self, rt: &impl Print, passed: bool) -> io::Result<Run> {
+        show::text(rt, b"\n")?;
         if passed {
             self.passed = std::num::wrapping_add_u64(self.passed, 1);
-            return self;
+            return Ok(self);
         }
         self.failed = std::num::wrapping_add_u64(self.failed, 1);
-        self
+        Ok(self)
     }
 
     // How many comparisons were made.
@@ -130,110 +133,130 @@ impl Run {
     }
 
     // A step: its outcome, and the lines after it.
-    fn check(self, step: Step, expected: Expected, lines: u64) -> Run {
+    fn check(self, rt: &impl Print, step: Step, expected: Expected, lines: u64) -> io::Result<Run> {
         let before = self.device;
         let stepped = before.step(step);
         let answer = stepped.answer;
         let after = stepped.device;
         let got = got_of(answer, before, after);
         let passed = got.lines == lines && meets(got, expected);
-        show_name(self.count());
-        show_expected(expected, lines);
-        show::verdict(passed);
+        show_name(rt, self.count())?;
+        show_expected(rt, expected, lines)?;
+        show::verdict(rt, passed)?;
         if !passed {
-            show_got(got);
+            show_got(rt, got)?;
         }
-        self.with_device(after).counted(passed)
+        self.with_device(after).counted(rt, passed)
     }
 
     // In these four all lines are low after the step.
-    pub(crate) fn refuses(self, step: Step, number: u64) -> Run {
-        self.check(step, Expected::Refused(number), 0)
+    pub(crate) fn refuses(self, rt: &impl Print, step: Step, number: u64) -> io::Result<Run> {
+        self.check(rt, step, Expected::Refused(number), 0)
     }
 
-    pub(crate) fn reads(self, step: Step, value: u64) -> Run {
-        self.check(step, Expected::Value(value), 0)
+    pub(crate) fn reads(self, rt: &impl Print, step: Step, value: u64) -> io::Result<Run> {
+        self.check(rt, step, Expected::Value(value), 0)
     }
 
-    pub(crate) fn accepts(self, step: Step) -> Run {
-        self.check(step, Expected::Accepted, 0)
+    pub(crate) fn accepts(self, rt: &impl Print, step: Step) -> io::Result<Run> {
+        self.check(rt, step, Expected::Accepted, 0)
     }
 
-    pub(crate) fn keeps_reads(self, step: Step) -> Run {
-        self.check(step, Expected::SameReads, 0)
+    pub(crate) fn keeps_reads(self, rt: &impl Print, step: Step) -> io::Result<Run> {
+        self.check(rt, step, Expected::SameReads, 0)
     }
 
-    pub(crate) fn raises(self, step: Step, lines: u64) -> Run {
-        self.check(step, Expected::Accepted, lines)
+    pub(crate) fn raises(self, rt: &impl Print, step: Step, lines: u64) -> io::Result<Run> {
+        self.check(rt, step, Expected::Accepted, lines)
     }
 
     // The same of a bus access and of a bridge register.
-    pub(crate) fn refuses_read(self, address: u64, width: u64, number: u64) -> Run {
-        self.refuses(bus_read(address, width), number)
+    pub(crate) fn refuses_read(
+        self,
+        rt: &impl Print,
+        address: u64,
+        width: u64,
+        number: u64,
+    ) -> io::Result<Run> {
+        self.refuses(rt, bus_read(address, width), number)
     }
 
-    pub(crate) fn refuses_write(self, address: u64, width: u64, value: u64, number: u64) -> Run {
-        self.refuses(bus_write(address, width, value), number)
+    pub(crate) fn refuses_write(
+        self,
+        rt: &impl Print,
+        address: u64,
+        width: u64,
+        value: u64,
+        number: u64,
+    ) -> io::Result<Run> {
+        self.refuses(rt, bus_write(address, width, value), number)
     }
 
-    pub(crate) fn writes(self, register: Register, value: u64) -> Run {
-        self.accepts(bridge_write(register, value))
+    pub(crate) fn writes(self, rt: &impl Print, register: Register, value: u64) -> io::Result<Run> {
+        self.accepts(rt, bridge_write(register, value))
     }
 
-    pub(crate) fn shows(self, register: Register, value: u64) -> Run {
-        self.reads(bridge_read(register), value)
+    pub(crate) fn shows(self, rt: &impl Print, register: Register, value: u64) -> io::Result<Run> {
+        self.reads(rt, bridge_read(register), value)
     }
 
     // The bits that a step moved.
-    pub(crate) fn moves(self, step: Step, moved: u64) -> Run {
+    pub(crate) fn moves(self, rt: &impl Print, step: Step, moved: u64) -> io::Result<Run> {
         let before = self.device;
         let stepped = before.step(step);
         let answer = stepped.answer;
         let after = stepped.device;
         let passed = answer.moved == moved;
-        show_name(self.count());
-        show::moved(moved);
-        show::verdict(passed);
+        show_name(rt, self.count())?;
+        show::moved(rt, moved)?;
+        show::verdict(rt, passed)?;
         if !passed {
-            show::moved(answer.moved);
+            show::moved(rt, answer.moved)?;
         }
-        self.with_device(after).counted(passed)
+        self.with_device(after).counted(rt, passed)
     }
 
     // Whether two writes end in the same cells in both orders.
-    pub(crate) fn orders(self, a: Step, b: Step, agree: bool) -> Run {
+    pub(crate) fn orders(self, rt: &impl Print, a: Step, b: Step, agree: bool) -> io::Result<Run> {
         let d = self.device;
         let got = same_cells(after_both(d, a, b), after_both(d, b, a));
         let passed = got == agree;
-        show_name(self.count());
-        show::agreement(agree);
-        show::verdict(passed);
+        show_name(rt, self.count())?;
+        show::agreement(rt, agree)?;
+        show::verdict(rt, passed)?;
         if !passed {
-            show::agreement(got);
+            show::agreement(rt, got)?;
         }
-        self.counted(passed)
+        self.counted(rt, passed)
     }
 
     // The cell in which two writes clash, and the bits.
-    pub(crate) fn clashes(self, a: Step, b: Step, cell: u64, bits: u64) -> Run {
+    pub(crate) fn clashes(
+        self,
+        rt: &impl Print,
+        a: Step,
+        b: Step,
+        cell: u64,
+        bits: u64,
+    ) -> io::Result<Run> {
         let d = self.device;
         let got = clashes::find_clash(d.second_open, a, b);
         let got_cell = clash::cell_of(got);
         let got_bits = clash::bits_of(got);
         let passed = got_cell == cell && got_bits == bits;
-        show_name(self.count());
-        clash::show(cell, bits);
-        show::verdict(passed);
+        show_name(rt, self.count())?;
+        clash::show(rt, cell, bits)?;
+        show::verdict(rt, passed)?;
         if !passed {
-            clash::show(got_cell, got_bits);
+            clash::show(rt, got_cell, got_bits)?;
         }
-        self.counted(passed)
+        self.counted(rt, passed)
     }
 
-    pub(crate) fn show_totals(self) {
-        show::decimal(self.passed);
-        show::text(b" passed, ");
-        show::decimal(self.failed);
-        show::text(b" failed\n");
+    pub(crate) fn show_totals(self, rt: &impl Print) -> io::Result<()> {
+        show::decimal(rt, self.passed)?;
+        show::text(rt, b" passed, ")?;
+        show::decimal(rt, self.failed)?;
+        show::text(rt, b" failed\n")
     }
 }

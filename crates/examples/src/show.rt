@@ -1,32 +1,31 @@
 // What the program prints.
-use libc::STDOUT_FILENO;
+use std::io;
 
-pub(crate) fn text(bytes: &[u8]) {
-    io::write_all(STDOUT_FILENO, bytes);
+pub(crate) fn text(rt: &impl Print, bytes: &[u8]) -> io::Result<()> {
+    rt.write_all(bytes)
 }
 
-pub(crate) fn decimal(n: u64) {
-    io::print_decimal(STDOUT_FILENO, n);
+pub(crate) fn decimal(rt: &impl Print, n: u64) -> io::Result<()> {
+    print!(rt; "{n}")
 }
 
-pub(crate) fn hex(n: u64) {
-    text(b"0x");
-    io::print_hex(STDOUT_FILENO, n, 1);
+pub(crate) fn hex(rt: &impl Print, n: u64) -> io::Result<()> {
+    print!(rt; "0x{n:x}")
 }
 
-pub(crate) fn refused(number: u64) {
-    text(b"refused ");
-    decimal(number);
+pub(crate) fn refused(rt: &impl Print, number: u64) -> io::Result<()> {
+    text(rt, b"refused ")?;
+    decimal(rt, number)
 }
 
-pub(crate) fn value(n: u64) {
-    text(b"value ");
-    hex(n);
+pub(crate) fn value(rt: &impl Print, n: u64) -> io::Result<()> {
+    text(rt, b"value ")?;
+    hex(rt, n)
 }
 
-pub(crate) fn moved(n: u64) {
-    text(b"moved ");
-    hex(n);
+pub(crate) fn moved(rt: &impl Print, n: u64) -> io::Result<()> {
+    text(rt, b"moved ")?;
+    hex(rt, n)
 }
 
 fn digit(n: u64) -> u8 {
@@ -34,7 +33,7 @@ fn digit(n: u64) -> u8 {
 }
 
 // The twelve lines, the IPI line of core 0 first.
-pub(crate) fn lines(bits: u64) {
+pub(crate) fn lines(rt: &impl Print, bits: u64) -> io::Result<()> {
     let digits = [
         digit(bits),
         digit(bits / 2),
@@ -49,23 +48,23 @@ pub(crate) fn lines(bits: u64) {
         digit(bits / 1024),
         digit(bits / 2048),
     ];
-    text(b", lines ");
-    text(&digits);
+    text(rt, b", lines ")?;
+    text(rt, &digits)
 }
 
 // Of the two orders of a pair of writes.
-pub(crate) fn agreement(same: bool) {
+pub(crate) fn agreement(rt: &impl Print, same: bool) -> io::Result<()> {
     if same {
-        text(b"the orders agree");
+        text(rt, b"the orders agree")
     } else {
-        text(b"the orders differ");
+        text(rt, b"the orders differ")
     }
 }
 
-pub(crate) fn verdict(passed: bool) {
+pub(crate) fn verdict(rt: &impl Print, passed: bool) -> io::Result<()> {
     if passed {
-        text(b": ok");
+        text(rt, b": ok")
     } else {
-        text(b": FAILED, got ");
+        text(rt, b": FAILED, got ")
     }
 }
