@@ -3,6 +3,7 @@ use crate::print::{CLASH_BITS, put_filled, put_line};
 use clashes::Clash;
 use reorder::Cell;
 use script::step_of;
+use std::io;
 use text::{put, put_decimal};
 
 // Keeps a write as the block's write i, and answers how many there are.
@@ -64,25 +65,27 @@ fn put_cell(out: &mut [u8], at: usize, cell: Cell) -> usize {
 
 // Puts the line for two writes, if they clash.
 fn put_clash(
+    rt: &impl Print,
     a: [u64; 7],
     b: [u64; 7],
     second_open: bool,
     line: u64,
     out: &mut [u8],
     at: usize,
-) -> usize {
+) -> io::Result<usize> {
     match clashes::find_clash(second_open, step_of(a), step_of(b)) {
-        Clash::Free => at,
+        Clash::Free => Ok(at),
         Clash::On { cell, bits } => {
             let start = put_filled(out, at, b"# clash # # ", [line, a[6], b[6], 0, 0], b"");
             let end = put_cell(out, start, cell);
-            put_line(out, end, CLASH_BITS, [bits, 0, 0, 0, 0], b"")
+            put_line(rt, out, end, CLASH_BITS, [bits, 0, 0, 0, 0], b"")
         }
     }
 }
 
 // Puts those for write i and a later one.
 fn put_clashes_of(
+    rt: &impl Print,
     block: &[[u64; 7]; 256],
     i: usize,
     from: usize,
@@ -91,37 +94,35 @@ fn put_clashes_of(
     line: u64,
     out: &mut [u8],
     at: usize,
-) -> usize {
+) -> io::Result<usize> {
     let mut next = at;
-    let mut j = from;
-    while j < count {
+    for j in from..count {
         next = put_clash(
+            rt,
             values_at(block, i),
             values_at(block, j),
             second_open,
             line,
             out,
             next,
-        );
-        j += 1;
+        )?;
     }
-    next
+    Ok(next)
 }
 
 // Puts a line for each pair of the block's writes that clashes.
 pub(crate) fn put_clashes(
+    rt: &impl Print,
     block: &[[u64; 7]; 256],
     count: usize,
     second_open: bool,
     line: u64,
     out: &mut [u8],
     at: usize,
-) -> usize {
+) -> io::Result<usize> {
     let mut next = at;
-    let mut i = 0;
-    while i < count {
-        next = put_clashes_of(block, i, i + 1, count, second_open, line, out, next);
-        i += 1;
+    for i in 0..count {
+        next = put_clashes_of(rt, block, i, i + 1, count, second_open, line, out, next)?;
     }
-    next
+    Ok(next)
 }

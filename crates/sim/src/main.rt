@@ -13,11 +13,14 @@ mod replay;
 mod run;
 mod words;
 
-use files::unread;
-use libc::STDIN_FILENO;
+use files::{open_read, unread};
 use output::flush;
-use print::{HEADER, put_error, put_line};
+use print::{HEADER, LONG_NAME, UNREAD, put_error, put_line};
 use run::Run;
+use std::env::FillError;
+use std::io;
+use std::io::{Input, Read};
+use std::rt::{Env, Files};
 use words::part;
 
 // The bytes of a line, without the carriage return at its end.
@@ -43,140 +46,182 @@ fn hold(line: &mut [u8], held: usize, byte: u8) -> usize {
 
 // Runs the lines that end in what was read, and holds the rest.
 fn feed(
+    rt: &(impl Print + Files + Alloc),
     mut run: Run,
     bytes: &[u8],
     line: &mut [u8],
     block: &mut [[u64; 7]; 256],
     out: &mut [u8],
-) -> Run {
-    let mut i = 0;
-    while i < bytes.len() {
-        let byte = bytes[i];
-        i += 1;
-        if byte == b'\n' {
-            run = run.run_line(line_text(line, run.held), block, out);
+) -> io::Result<Run> {
+    for byte in bytes {
+        if *byte == b'\n' {
+            run = run.run_line(rt, line_text(line, run.held), block, out)?;
         } else {
-            run.held = hold(line, run.held, byte);
+            run.held = hold(line, run.held, *byte);
         }
     }
-    run
+    Ok(run)
 }
 
 // How many bytes of the chunk are to be run: at the end of the input a line feed closes a line that lacks its own.
-fn closed(chunk: &mut [u8], got: isize, held: usize) -> usize {
-    if got == 0 {
-        if 0 < held {
-            if 0 < chunk.len() {
-                chunk[0] = b'\n';
-                return 1;
+fn closed(chunk: &mut [u8], got: io::Result<usize>, held: usize) -> usize {
+    match got {
+        Ok(0) => {
+            if 0 < held {
+                if 0 < chunk.len() {
+                    chunk[0] = b'\n';
+                    return 1;
+                }
             }
+            0
         }
+        Ok(n) => n,
+        Err(_) => 0,
     }
-    io::count(got, chunk)
 }
 
-fn put_unread(out: &mut [u8], at: usize, name: &[u8], error: i32) -> usize {
-    put_error(out, at, unread(error), 0, name)
+fn put_unread(
+    rt: &impl Print,
+    out: &mut [u8],
+    at: usize,
+    name: &[u8],
+    error: io::Error,
+) -> io::Result<usize> {
+    put_error(rt, out, at, unread(error), 0, name)
 }
 
 // The place in the output after a read: the header comes with the first, and a line says where one failed.
 fn put_read(
+    rt: &impl Print,
     out: &mut [u8],
     at: usize,
     name: &[u8],
-    failed: bool,
-    error: i32,
+    got: io::Result<usize>,
     headed: bool,
-) -> usize {
-    if failed {
-        return put_unread(out, at, name, error);
+) -> io::Result<usize> {
+    if let Err(error) = got {
+        return put_unread(rt, out, at, name, error);
     }
     if headed {
-        return put_line(out, at, HEADER, [0; 5], name);
+        return put_line(rt, out, at, HEADER, [0; 5], name);
     }
-    at
+    Ok(at)
 }
 
 // Reads once, and runs the lines that end in what came.
 fn turn(
+    rt: &(impl Print + Files + Alloc),
     mut run: Run,
-    fd: i32,
+    input: &mut impl Read,
     name: &[u8],
     several: bool,
     line: &mut [u8],
     block: &mut [[u64; 7]; 256],
     out: &mut [u8],
-) -> Run {
-    let mut chunk = io::large_buffer();
-    let got = libc::read(fd, &mut chunk);
-    let error = os::errno();
-    run.at = put_read(out, run.at, name, got < 0, error, several & !run.started);
-    run.started = run.started | (0 <= got);
-    run.over = got <= 0;
+) -> io::Result<Run> {
+    let mut chunk = [0u8; 65536];
+    let got = input.read(&mut chunk);
+    run.at = put_read(rt, out, run.at, name, got, several & !run.started)?;
+    run.started = run.started | got.is_ok();
+    run.over = got.unwrap_or(0) == 0;
     let n = closed(&mut chunk, got, run.held);
-    feed(run, part(&chunk, 0, n), line, block, out)
+    feed(rt, run, part(&chunk, 0, n), line, block, out)
 }
 
-// Runs the script of a descriptor, and answers the place in the output.
-fn run_script(fd: i32, name: &[u8], several: bool, out: &mut [u8], at: usize) -> usize {
+// Runs the script of an input, and answers the place in the output.
+fn run_script(
+    rt: &(impl Print + Files + Alloc),
+    input: &mut impl Read,
+    name: &[u8],
+    several: bool,
+    out: &mut [u8],
+    at: usize,
+) -> io::Result<usize> {
     let mut line = [0u8; 1026];
     let mut block = [[0u64; 7]; 256];
     let mut run = Run::fresh(at);
     // A proved loop has to end, and nothing says that the input does: no run uses the turns up.
-    let mut turns = u64::MAX;
-    while turns > 0 && !run.over {
-        run = turn(run, fd, name, several, &mut line, &mut block, out);
-        turns -= 1;
+    for _ in 0..u64::MAX {
+        if run.over {
+            break;
+        }
+        run = turn(rt, run, input, name, several, &mut line, &mut block, out)?;
     }
     if run.started {
-        return run.ended(out).put_counts(out);
+        return run.ended(rt, out)?.put_counts(rt, out);
     }
-    run.at
+    Ok(run.at)
 }
 
 // Runs the file of a path.
-fn run_file(path: &[u8], several: bool, out: &mut [u8], at: usize) -> usize {
-    let fd = os::open_read(path);
-    if fd < 0 {
-        let error = os::errno();
-        return put_unread(out, at, path, error);
+fn run_file(
+    rt: &(impl Print + Files + Alloc),
+    path: &[u8],
+    several: bool,
+    out: &mut [u8],
+    at: usize,
+) -> io::Result<usize> {
+    match open_read(rt, path) {
+        Ok(mut file) => run_script(rt, &mut file, path, several, out, at),
+        Err(error) => put_unread(rt, out, at, path, error),
     }
-    let next = run_script(fd, path, several, out, at);
-    libc::close(fd);
-    next
+}
+
+// The line for an argument that does not come whole.
+fn line_of_argument(error: FillError) -> u64 {
+    match error {
+        FillError::TooLong => LONG_NAME,
+        FillError::NotPresent => UNREAD,
+    }
 }
 
 // Runs the file that an argument names.
-fn run_argument(argument: usize, several: bool, out: &mut [u8], at: usize) -> usize {
-    let mut path = io::buffer();
-    let length = os::arg(argument, &mut path);
-    let error = os::errno();
-    if error != 0 {
-        return put_unread(out, at, b"argument", error);
+fn run_argument(
+    rt: &(impl Print + Files + Alloc + Env),
+    argument: usize,
+    several: bool,
+    out: &mut [u8],
+    at: usize,
+) -> io::Result<usize> {
+    let mut path = [0u8; 4096];
+    match rt.arg(argument, &mut path) {
+        Ok(length) => run_file(rt, part(&path, 0, length), several, out, at),
+        Err(error) => put_error(rt, out, at, line_of_argument(error), 0, b"argument"),
     }
-    run_file(&path[..length], several, out, at)
 }
 
-fn run_arguments(count: usize, out: &mut [u8]) -> usize {
+fn run_arguments(
+    rt: &(impl Print + Files + Alloc + Env),
+    count: usize,
+    out: &mut [u8],
+) -> io::Result<usize> {
     let mut at = 0;
-    let mut argument = 1;
-    while argument < count {
-        at = run_argument(argument, 2 < count, out, at);
-        argument += 1;
+    for argument in 1..count {
+        at = run_argument(rt, argument, 2 < count, out, at)?;
     }
-    at
+    Ok(at)
 }
 
-fn run_all(out: &mut [u8]) -> usize {
-    let count = os::arg_count();
+// How many arguments there are, the program's name among them.
+fn arg_count(rt: &impl Env) -> usize {
+    for i in 0..usize::MAX {
+        if let Err(FillError::NotPresent) = rt.arg(i, &mut []) {
+            return i;
+        }
+    }
+    usize::MAX
+}
+
+fn run_all(rt: &(impl Print + Files + Alloc + Env + Input), out: &mut [u8]) -> io::Result<usize> {
+    let count = arg_count(rt);
     if count < 2 {
-        return run_script(STDIN_FILENO, b"standard input", false, out, 0);
+        return run_script(rt, &mut rt.reader(), b"standard input", false, out, 0);
     }
-    run_arguments(count, out)
+    run_arguments(rt, count, out)
 }
 
-fn main() {
-    let mut out = io::large_buffer();
-    let at = run_all(&mut out);
-    flush(&out, at);
+fn main(rt: HostRuntime) -> io::Result<()> {
+    let mut out = [0u8; 65536];
+    let at = run_all(&rt, &mut out)?;
+    flush(&rt, &out, at)
 }

@@ -1,20 +1,17 @@
 // The output buffer.
 use crate::words::part;
-use libc::STDOUT_FILENO;
+use std::io;
 
 // Writes the buffer out.
-pub(crate) fn flush(out: &[u8], at: usize) {
-    let written = io::write_all(STDOUT_FILENO, part(out, 0, at));
-    if !written {
-        os::fail(b"standard output");
-    }
+pub(crate) fn flush(rt: &impl Print, out: &[u8], at: usize) -> io::Result<()> {
+    rt.write_all(part(out, 0, at))
 }
 
 // Writes the buffer out where it is nearly full: every line of output has fewer than 8,192 bytes.
-pub(crate) fn flushed(out: &[u8], at: usize) -> usize {
+pub(crate) fn flushed(rt: &impl Print, out: &[u8], at: usize) -> io::Result<usize> {
     if at < 57344 {
-        return at;
+        return Ok(at);
     }
-    flush(out, at);
-    0
+    flush(rt, out, at)?;
+    Ok(0)
 }

@@ -9,7 +9,7 @@ use numbers::Number;
 
 // The error of a line, or NONE, and the place of the word at fault. The values are the form, then the numbers of the line by their places,
 // with that of a register at its name's place, and last the line's own number.
-#[derive(Drop)]
+#[derive(Clone, Copy)]
 pub(crate) struct Line {
     pub(crate) error: u64,
     pub(crate) place: usize,
@@ -17,7 +17,7 @@ pub(crate) struct Line {
 }
 
 // What a word says, or what is wrong with it.
-#[derive(Drop)]
+#[derive(Clone, Copy)]
 struct Value {
     value: u64,
     error: u64,

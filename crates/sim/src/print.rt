@@ -3,6 +3,7 @@ use crate::counts::more;
 use crate::forms::put_form;
 use crate::output::flushed;
 use crate::words::entry;
+use std::io;
 use text::{put, put_decimal, put_hex};
 
 // No line: nothing is wrong.
@@ -179,21 +180,30 @@ pub(crate) fn put_filled(
 
 // Puts the line of an entry, and writes the buffer out where it is nearly full.
 fn put_entry(
+    rt: &impl Print,
     out: &mut [u8],
     at: usize,
     table: &[u8],
     n: u64,
     values: [u64; 5],
     text: &[u8],
-) -> usize {
+) -> io::Result<usize> {
     let end = put_filled(out, at, entry(table, n), values, text);
     let next = put_byte(out, end, b'\n');
-    flushed(out, next)
+    flushed(rt, out, next)
 }
 
 // Puts a line with its values and its text.
-pub(crate) fn put_line(out: &mut [u8], at: usize, n: u64, values: [u64; 5], text: &[u8]) -> usize {
+pub(crate) fn put_line(
+    rt: &impl Print,
+    out: &mut [u8],
+    at: usize,
+    n: u64,
+    values: [u64; 5],
+    text: &[u8],
+) -> io::Result<usize> {
     put_entry(
+        rt,
         out,
         at,
         b"
@@ -222,8 +232,16 @@ pub(crate) fn put_line(out: &mut [u8], at: usize, n: u64, values: [u64; 5], text
 }
 
 // Puts the line of a file in error, or what stands behind the number of a line in error: '@' is the form that was expected.
-pub(crate) fn put_error(out: &mut [u8], at: usize, n: u64, form: u64, text: &[u8]) -> usize {
+pub(crate) fn put_error(
+    rt: &impl Print,
+    out: &mut [u8],
+    at: usize,
+    n: u64,
+    form: u64,
+    text: &[u8],
+) -> io::Result<usize> {
     put_entry(
+        rt,
         out,
         at,
         b"
@@ -262,13 +280,14 @@ error reorder begin without reorder end
 
 // Puts that of a line in error, which may be a file's that the line names.
 pub(crate) fn put_line_error(
+    rt: &impl Print,
     out: &mut [u8],
     at: usize,
     line: u64,
     n: u64,
     form: u64,
     text: &[u8],
-) -> usize {
+) -> io::Result<usize> {
     let next = put_filled(out, at, b"# ", [line, 0, 0, 0, 0], text);
-    put_error(out, next, n, form, text)
+    put_error(rt, out, next, n, form, text)
 }

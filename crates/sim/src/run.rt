@@ -17,8 +17,10 @@ use answers::Outcome;
 use device::Device;
 use numbered::BUS_READ;
 use script::{WINDOW_CLOSED, clash_count, step_of};
+use std::io;
+use std::rt::Files;
 
-#[derive(Drop)]
+#[derive(Clone, Copy)]
 pub(crate) struct Run {
     device: Device,
     // The number of the present line.
@@ -123,11 +125,18 @@ impl Run {
         }
     }
 
-    fn in_error(mut self, error: u64, form: u64, word: &[u8], out: &mut [u8]) -> Run {
-        self.at = put_line_error(out, self.at, self.line, error, form, word);
+    fn in_error(
+        mut self,
+        rt: &impl Print,
+        error: u64,
+        form: u64,
+        word: &[u8],
+        out: &mut [u8],
+    ) -> io::Result<Run> {
+        self.at = put_line_error(rt, out, self.at, self.line, error, form, word)?;
         self.errors = more(self.errors);
         self.after_error = true;
-        self
+        Ok(self)
     }
 
     // Counts a step, and keeps what it answered and left.
@@ -160,8 +169,9 @@ impl Run {
     }
 
     // Puts what the last step answered.
-    fn put_answer(mut self, out: &mut [u8]) -> Run {
+    fn put_answer(mut self, rt: &impl Print, out: &mut [u8]) -> io::Result<Run> {
         self.at = put_line(
+            rt,
             out,
             self.at,
             line_for(self.refusal, OK, REFUSED),
@@ -173,48 +183,61 @@ impl Run {
                 0,
             ],
             b"",
-        );
-        self
+        )?;
+        Ok(self)
     }
 
     // Takes a step, or keeps a write of a block, to be judged at the block's end.
     fn step_or_keep(
         mut self,
+        rt: &impl Print,
         values: [u64; 7],
         block: &mut [[u64; 7]; 256],
         out: &mut [u8],
-    ) -> Run {
+    ) -> io::Result<Run> {
         if self.begin == 0 {
-            return self.step(values).put_answer(out);
+            return self.step(values).put_answer(rt, out);
         }
         self.writes = keep(block, self.writes, values);
-        self
+        Ok(self)
     }
 
     // Puts what a replay answered: the bytes of the dump, or the refusal's number, and the place in the capture that shows it.
-    fn put_replayed(mut self, n: u64, place: u64, out: &mut [u8]) -> Run {
+    fn put_replayed(
+        mut self,
+        rt: &impl Print,
+        n: u64,
+        place: u64,
+        out: &mut [u8],
+    ) -> io::Result<Run> {
         self.at = put_line(
+            rt,
             out,
             self.at,
             line_for(self.refusal, REPLAYED, REFUSED_AT),
             [self.line, n, self.lines, place, 0],
             b"",
-        );
-        self
+        )?;
+        Ok(self)
     }
 
     // Replays a capture, which is a step with the value 0 and the word 0, unless a file is at fault.
-    fn replay(self, s: &[u8], out: &mut [u8]) -> Run {
+    fn replay(
+        self,
+        rt: &(impl Print + Files + Alloc),
+        s: &[u8],
+        out: &mut [u8],
+    ) -> io::Result<Run> {
         let device = self.device;
-        let replay = replay_file(device, word_at(s, 1), word_at(s, 2));
+        let replay = replay_file(rt, device, word_at(s, 1), word_at(s, 2))?;
         if replay.error != NONE {
-            return self.in_error(replay.error, REPLAY, word_at(s, replay.word), out);
+            return self.in_error(rt, replay.error, REPLAY, word_at(s, replay.word), out);
         }
         let next = replay.device;
         let shown = next.answered(Outcome::Value(0), 0);
         let answer = shown.answer;
         self.stepped(0, replay.refusal, answer.lines(), 0, next)
-            .put_replayed(replay.length | replay.refusal, replay.place, out)
+            .put_replayed(rt, replay.length | replay.refusal, replay.place, out)
     }
 
     // Counts an expectation, which is met where nothing is missed.
@@ -225,18 +248,25 @@ impl Run {
     }
 
     // Judges an expectation by the last step.
-    fn expect(mut self, form: u64, wanted: u64, out: &mut [u8]) -> Run {
+    fn expect(
+        mut self,
+        rt: &impl Print,
+        form: u64,
+        wanted: u64,
+        out: &mut [u8],
+    ) -> io::Result<Run> {
         let lines = as_many(self.lines, wanted);
         let got = got_of(form, self.value | self.refusal, lines, self.moved);
         let missed = (form_met(form, self.refusal) ^ form) | (got ^ wanted);
         self.at = put_line(
+            rt,
             out,
             self.at,
             line_for(missed, MET, line_failed(form, self.refusal)),
             [self.line, wanted, got, 0, 0],
             b"",
-        );
-        self.count_judged(missed)
+        )?;
+        Ok(self.count_judged(missed))
     }
 
     fn begin_block(mut self) -> Run {
@@ -246,21 +276,27 @@ impl Run {
     }
 
     // Puts the clashes of a block's writes, judged in the device's present state, and then the verdict.
-    fn end_block(mut self, block: &[[u64; 7]; 256], out: &mut [u8]) -> Run {
+    fn end_block(
+        mut self,
+        rt: &impl Print,
+        block: &[[u64; 7]; 256],
+        out: &mut [u8],
+    ) -> io::Result<Run> {
         let device = self.device;
         let second_open = device.second_open;
         let writes = self.writes;
         let clashes = clash_count(device, block, writes);
-        self.at = put_clashes(block, writes, second_open, self.line, out, self.at);
+        self.at = put_clashes(rt, block, writes, second_open, self.line, out, self.at)?;
         self.at = put_line(
+            rt,
             out,
             self.at,
             line_for(clashes, FREE, CLASHES),
             [self.line, writes as u64, clashes, 0, 0],
             b"",
-        );
+        )?;
         self.begin = 0;
-        self
+        Ok(self)
     }
 
     // Why a step cannot stand where it does: a block has writes of the order rule only, and not more than fit.
@@ -301,46 +337,54 @@ impl Run {
     // Runs a line that is right.
     fn run_values(
         self,
+        rt: &(impl Print + Files + Alloc),
         s: &[u8],
         values: [u64; 7],
         block: &mut [[u64; 7]; 256],
         out: &mut [u8],
-    ) -> Run {
+    ) -> io::Result<Run> {
         match values[0] {
-            BUS_READ..=WINDOW_CLOSED => self.step_or_keep(values, block, out),
-            REPLAY => self.replay(s, out),
-            EXPECT_VALUE..=EXPECT_MOVED => self.expect(values[0], wanted(values), out),
-            REORDER_BEGIN => self.begin_block(),
-            REORDER_END => self.end_block(block, out),
-            _ => self,
+            BUS_READ..=WINDOW_CLOSED => self.step_or_keep(rt, values, block, out),
+            REPLAY => self.replay(rt, s, out),
+            EXPECT_VALUE..=EXPECT_MOVED => self.expect(rt, values[0], wanted(values), out),
+            REORDER_BEGIN => Ok(self.begin_block()),
+            REORDER_END => self.end_block(rt, block, out),
+            _ => Ok(self),
         }
     }
 
     // Runs the next line.
-    pub(crate) fn run_line(mut self, s: &[u8], block: &mut [[u64; 7]; 256], out: &mut [u8]) -> Run {
+    pub(crate) fn run_line(
+        mut self,
+        rt: &(impl Print + Files + Alloc),
+        s: &[u8],
+        block: &mut [[u64; 7]; 256],
+        out: &mut [u8],
+    ) -> io::Result<Run> {
         self.held = 0;
         self.line = more(self.line);
         let line = parse(s, self.line);
         let values = line.values;
         let error = self.error_of(line.error, values);
         if error != NONE {
-            return self.in_error(error, values[0], word_at(s, line.place), out);
+            return self.in_error(rt, error, values[0], word_at(s, line.place), out);
         }
-        self.run_values(s, values, block, out)
+        self.run_values(rt, s, values, block, out)
     }
 
     // The end of the script: a block that is open is an error of the line that began it.
-    pub(crate) fn ended(mut self, out: &mut [u8]) -> Run {
+    pub(crate) fn ended(mut self, rt: &impl Print, out: &mut [u8]) -> io::Result<Run> {
         if self.begin == 0 {
-            return self;
+            return Ok(self);
         }
         self.line = self.begin;
-        self.in_error(NO_END, 0, b"", out)
+        self.in_error(rt, NO_END, 0, b"", out)
     }
 
     // The last line of the output.
-    pub(crate) fn put_counts(self, out: &mut [u8]) -> usize {
+    pub(crate) fn put_counts(self, rt: &impl Print, out: &mut [u8]) -> io::Result<usize> {
         put_line(
+            rt,
             out,
             self.at,
             line_for(self.passed | self.failed, COUNTS, JUDGED),

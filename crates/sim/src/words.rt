@@ -2,7 +2,7 @@
 use text::same;
 
 // The first seven words of a line: no form has more than six.
-#[derive(Drop)]
+#[derive(Clone, Copy)]
 pub(crate) struct Words {
     pub(crate) count: usize,
     pub(crate) starts: [usize; 7],
