@@ -4,10 +4,10 @@ use borrow.Author.Rules.{rules}
 use Rattle.speed.proofs.fill.Statement.{statement}
 use Rattle.speed.proofs.fill.Tie as tie
 
-abbrev invariant_loop : tie.invariant_loop
+abbrev invariant_loop : tie.invariant-loop-i
 invariant_loop rows₀ first half i₀ rows i = Unit {0}
 
-abbrev decreases_loop : tie.decreases_loop
+abbrev decreases_loop : tie.decreases-loop-i
 decreases_loop rows₀ first half i₀ rows i = 32 - i
 
 pub fill_spec : {M : Type 1} → statement M
@@ -17,11 +17,11 @@ fill_spec =
     invariant_loop
     decreases_loop
     (λ c. search rules)  -- loop-holds
-    (λ c. search rules)  -- mul-row
-    (λ c. search rules)  -- element-copy-out-row
-    (λ c. search rules)  -- mul-row-2
-    (λ c. search rules)  -- element-set-from-row
-    (λ c. search rules)  -- add-i
+    (λ c. search rules)  -- offset_bounds-half-i
+    (λ c. search rules)  -- bounds-half-i
+    (λ c. search rules)  -- offset_bounds-rows-first
+    (λ c. search rules)  -- bounds-rows-first
+    (λ c. search rules)  -- overflow_add-i
     (λ c. search rules)  -- loop-less
     (λ c. search rules)  -- loop-again
     (λ c. search rules)  -- returns

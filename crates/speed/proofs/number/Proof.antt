@@ -4,10 +4,10 @@ use borrow.Author.Rules.{rules}
 use Rattle.speed.proofs.number.Statement.{statement}
 use Rattle.speed.proofs.number.Tie as tie
 
-abbrev invariant_loop : tie.invariant_loop
+abbrev invariant_loop : tie.invariant-loop-i
 invariant_loop text n₀ i₀ i-end n i = Unit {0}
 
-abbrev decreases_loop : tie.decreases_loop
+abbrev decreases_loop : tie.decreases-loop-i
 decreases_loop text n₀ i₀ i-end n i = i-end - i
 
 pub number_spec : {M : Type 1} → statement M
@@ -17,9 +17,9 @@ number_spec =
     invariant_loop
     decreases_loop
     (λ c. search rules)  -- loop-holds
-    (λ c. search rules)  -- shared-slice-read-with-digit
-    (λ c κs. search rules)  -- with-digit-requires
-    (λ c. search rules)  -- add-i
+    (λ c. search rules)  -- bounds-text-i
+    (λ c κs. search rules)  -- with_digit-n-requires
+    (λ c. search rules)  -- overflow_step-i
     (λ c. search rules)  -- loop-less
     (λ c. search rules)  -- loop-again
     (λ c. search rules)  -- returns

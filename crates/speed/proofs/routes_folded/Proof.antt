@@ -4,10 +4,10 @@ use borrow.Author.Rules.{rules}
 use Rattle.speed.proofs.routes_folded.Statement.{statement}
 use Rattle.speed.proofs.routes_folded.Tie as tie
 
-abbrev invariant_loop : tie.invariant_loop
+abbrev invariant_loop : tie.invariant-loop-i
 invariant_loop sum routes s₀ i₀ s i = Unit {0}
 
-abbrev decreases_loop : tie.decreases_loop
+abbrev decreases_loop : tie.decreases-loop-i
 decreases_loop sum routes s₀ i₀ s i = 64 - i
 
 pub routes_folded_spec : {M : Type 1} → statement M
@@ -17,10 +17,10 @@ routes_folded_spec =
     invariant_loop
     decreases_loop
     (λ c. search rules)  -- loop-holds
-    (λ c. search rules)  -- array-read-wide
+    (λ c. search rules)  -- bounds-routes-i
     (λ c κs. search rules)  -- wide-requires
-    (λ c κs. search rules)  -- folded-requires
-    (λ c. search rules)  -- add-i
+    (λ c κs. search rules)  -- folded-s-requires
+    (λ c. search rules)  -- overflow_step-i
     (λ c. search rules)  -- loop-less
     (λ c. search rules)  -- loop-again
     (λ c. search rules)  -- returns

@@ -4,10 +4,10 @@ use borrow.Author.Rules.{rules}
 use Rattle.speed.proofs.run.Statement.{statement}
 use Rattle.speed.proofs.run.Tie as tie
 
-abbrev invariant_loop : tie.invariant_loop
+abbrev invariant_loop : tie.invariant-loop
 invariant_loop rows n d₀ x₀ sum₀ counter₀ d x sum counter = Unit {0}
 
-abbrev decreases_loop : tie.decreases_loop
+abbrev decreases_loop : tie.decreases-loop
 decreases_loop rows n d₀ x₀ sum₀ counter₀ d x sum counter = n - counter
 
 pub run_spec : {M : Type 1} → statement M
@@ -16,17 +16,17 @@ run_spec =
     (tie.spec
     invariant_loop
     decreases_loop
-    (λ c κs. search rules)  -- fresh-requires
+    (λ c κs. search rules)  -- fresh-d-requires
     (λ c. search rules)  -- loop-holds
-    (λ c κs. search rules)  -- drawn-requires
-    (λ c. search rules)  -- mul-row
-    (λ c. search rules)  -- element-copy-out-row
-    (λ c κs. search rules)  -- row-step-requires
-    (λ c κs. search rules)  -- step-requires
-    (λ c κs. search rules)  -- answer-folded-requires
-    (λ c. search rules)  -- add-counter
+    (λ c κs. search rules)  -- drawn-x-requires
+    (λ c. search rules)  -- offset_bounds-rows-x
+    (λ c. search rules)  -- bounds-rows-x
+    (λ c κs. search rules)  -- row_step-requires
+    (λ c κs. search rules)  -- step-stepped-requires
+    (λ c κs. search rules)  -- answer_folded-sum-requires
+    (λ c. search rules)  -- overflow_step
     (λ c. search rules)  -- loop-less
     (λ c. search rules)  -- loop-again
-    (λ c κs. search rules)  -- device-folded-requires
+    (λ c κs. search rules)  -- device_folded-requires
     (λ c. search rules)  -- returns
     )
