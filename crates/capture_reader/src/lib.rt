@@ -1,6 +1,5 @@
-// A reader of a capture: it holds the lent text and a place in it, and copies nothing. Each replay goes through one. The borrow checker covers no
-// function over such a struct, so these are few and thin, and each is proved by hand: it takes the reader apart and calls a covered function on
-// the slice and the number. Who calls `replay_at` or `replay_text`, whose parameters are plain, needs no such proof.
+// A reader of a capture: it holds the lent text and a place in it, and copies nothing. Each replay goes through one. The functions over it are few
+// and thin: each takes the reader apart and calls a function on the slice and the number.
 #![tactic(auto)]
 
 ghost use Rattle.std.specs.Prelude.{◌≡◌};

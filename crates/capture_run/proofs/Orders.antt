@@ -28,6 +28,7 @@ module _ (f : ℕ → Bool) where
 
   chosen_below : (n i a : ℕ) → a ∈ chosen_from i n f → a < i + n
   unfolding chosen_from
+  chosen_below zero i a m = elim m [ ]
   chosen_below (suc n) i a m = by (f i) m (chosen_below n (suc i) a)
     where
       by : (t : Bool) → a ∈ cond t (i ∷ chosen_from (suc i) n f) (chosen_from (suc i) n f) → (a ∈ chosen_from (suc i) n f → a < suc i + n) → a < i + suc n

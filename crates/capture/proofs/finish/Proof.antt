@@ -10,10 +10,10 @@ pub finish_spec : {M : Type 1} → statement M
 finish_spec =
     tie.close
     (tie.spec
-    (λ c κs. search rules)  -- lines-requires
-    (λ c κs. search rules)  -- put-end-requires
-    (λ c. search rules)  -- same-length
+    (λ c κs. search rules)  -- lines-lines-requires
+    (λ c κs. search rules)  -- put_end-q-requires
+    (λ c. search rules)  -- shape_of-out
     (λ c look.
-    let a = c.before.before.before.before.before.before.before.args in
-    walks_none look a.b a.t a.last refl refl (rw c.before.before.before.before.lines.ensures at (inked_emitted c.before.before.put-end.ensures)))  -- returns
+    let a = c.args in
+    walks_none look a.b a.t a.last refl refl (rw c.lines-lines.ensures at (inked_emitted c.put_end-q.ensures)))  -- returns
     )

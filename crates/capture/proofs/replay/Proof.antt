@@ -14,34 +14,34 @@ pub replay_spec : {M : Type 1} → statement M
 replay_spec =
     tie.close
     (tie.spec
-    (λ c. search rules)  -- slice-aggregate-index
-    (λ c. search rules)  -- slice-aggregate-index-2
-    (λ c κs. search rules)  -- index-requires
-    (λ c κs. search rules)  -- at-command-requires
-    (λ c κs. search rules)  -- least-requires
-    (λ c. search rules)  -- slice-aggregate-replay-rest
-    (λ c. search rules)  -- slice-aggregate-replay-rest-2
-    (λ c. search rules)  -- sub-replay-rest
-    (λ c. search rules)  -- part-replay-rest-start
-    (λ c. search rules)  -- part-replay-rest-end
-    (λ c κs. search rules)  -- replay-rest-requires
+    (λ c. search rules)  -- slice_bounds-index-end
+    (λ c. search rules)  -- slice_bounds-index-end-2
+    (λ c κs. search rules)  -- index-headed-requires
+    (λ c κs. search rules)  -- at_command-requires
+    (λ c κs. search rules)  -- least-start-requires
+    (λ c. search rules)  -- slice_bounds-replay_rest-end
+    (λ c. search rules)  -- slice_bounds-replay_rest-end-then-at_command
+    (λ c. search rules)  -- slice_bounds-replay_rest-count
+    (λ c. search rules)  -- slice_bounds-replay_rest-start
+    (λ c. search rules)  -- slice_bounds-replay_rest-end-then-at_command-2
+    (λ c κs. search rules)  -- replay_rest-r-requires
     (λ c.
-    let a = c.before.before.before.before.before.before.before.before.before.before.before.before.before.before.before.before.before.before.before.args in
-    let n = c.before.before.before.before.before.before.before.before.before.before.before.before.before.before.index in
-    ⊎_elim (λ f. omega (arith, c.before.before.before.before.before.before.before.before.before.before.before.before.before.before.before.before.before.before.before.well-formed)) (λ z. omega (arith, c.before.before.before.before.before.before.before.before.before.before.before.before.before.before.before.before.before.before.before.ranges))
-    (used_fits a.d a.s.now a.out.now a.used n.result n.ensures.0 (sym c.before.before.before.before.before.before.before.before.before.before.at-command.ensures ∙ c.before.before.before.before.before.before.before.before.before.if1.true) c.before.before.before.before.before.before.before.before.least.result c.before.before.before.before.before.before.before.before.least.ensures
-    _ (λ x. table_look a.s.now x _ _ n.ensures.1.1.0 n.ensures.1.1.1) _ n.ensures.1.0 c.before.before.before.before.replay-rest.result _ c.before.before.before.before.replay-rest.ensures))  -- add-t19
-    (λ c. search rules)  -- same-length
+    let a = c.args in
+    let n = c.index-headed in
+    ⊎_elim (λ f. omega (arith, c.well_formed)) (λ z. omega (arith, c.ranges))
+    (used_fits a.d a.s.now a.out.now a.used n.result n.ensures.0 (sym c.at_command.ensures ∙ c.if-at_command.true) c.least-start.result c.least-start.ensures
+    _ (λ x. table_look a.s.now x _ _ n.ensures.1.1.0 n.ensures.1.1.1) _ n.ensures.1.0 c.replay_rest-r.result _ c.replay_rest-r.ensures))  -- overflow_add-result
+    (λ c. search rules)  -- shape_of-out-then-at_command
     (λ c.
-    let a = c.before.before.before.before.before.before.before.before.before.before.before.before.before.before.before.before.before.before.before.args in
-    let n = c.before.before.before.before.before.before.before.before.before.before.before.before.before.before.index in
-    replay_good a.d a.s.now a.out.now a.used n.result n.ensures.0 (sym c.before.before.before.before.before.before.before.before.before.before.at-command.ensures ∙ c.before.before.before.before.before.before.before.before.before.if1.true) c.before.before.before.before.before.before.before.before.least.result c.before.before.before.before.before.before.before.before.least.ensures
-    _ (λ x. table_look a.s.now x _ _ n.ensures.1.1.0 n.ensures.1.1.1) _ n.ensures.1.0 c.before.before.before.before.replay-rest.result _ c.before.before.before.before.replay-rest.ensures)  -- returns
-    (λ c κs. search rules)  -- bad-field-requires
+    let a = c.args in
+    let n = c.index-headed in
+    replay_good a.d a.s.now a.out.now a.used n.result n.ensures.0 (sym c.at_command.ensures ∙ c.if-at_command.true) c.least-start.result c.least-start.ensures
+    _ (λ x. table_look a.s.now x _ _ n.ensures.1.1.0 n.ensures.1.1.1) _ n.ensures.1.0 c.replay_rest-r.result _ c.replay_rest-r.ensures)  -- returns-then-at_command
+    (λ c κs. search rules)  -- bad_field-requires
     (λ c κs. search rules)  -- choose-requires
     (λ c.
-    let a = c.before.before.before.before.before.before.before.before.before.before.before.before.args in
-    let n = c.before.before.before.before.before.before.before.index in
-    replay_bad a.d a.s.now a.out.now a.used n.result n.ensures.0 (sym c.before.before.before.at-command.ensures ∙ c.before.before.if1.false) c.choose.result
-    (c.choose.ensures ∙ ap (λ (t : Bool). cond t n.result.head.place (length a.s.now)) c.before.bad-field.ensures))  -- returns-2
+    let a = c.args in
+    let n = c.index-headed in
+    replay_bad a.d a.s.now a.out.now a.used n.result n.ensures.0 (sym c.at_command.ensures ∙ c.if-at_command.false) c.choose.result
+    (c.choose.ensures ∙ ap (λ (t : Bool). cond t n.result.head.place (length a.s.now)) c.bad_field.ensures))  -- returns
     )

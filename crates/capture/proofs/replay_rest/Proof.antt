@@ -13,28 +13,28 @@ pub replay_rest_spec : {M : Type 1} → statement M
 replay_rest_spec =
     tie.close
     (tie.spec
-    (λ c κs. search rules)  -- begin-requires
-    (λ c κs. search rules)  -- walk-all-requires
+    (λ c κs. search rules)  -- begin-first-requires
+    (λ c κs. search rules)  -- walk_all-tried-requires
     (λ c κs. search rules)  -- judged-requires
-    (λ c κs. search rules)  -- with-room-requires
+    (λ c κs. search rules)  -- with_room-outcome-requires
     (λ c κs. search rules)  -- refused-requires
-    (λ c κs. search rules)  -- choose-requires
+    (λ c κs. search rules)  -- choose-place-requires
     (λ c κs. search rules)  -- accepted-requires
-    (λ c κs. search rules)  -- walk-all-requires-2
-    (λ c. c.before.before.before.before.walk-all2.ensures.dumped.size ∙ c.before.before.before.before.before.before.before.before.before.before.before.before.before.before.before.before.before.walk-all.ensures.dumped.size)  -- same-length
+    (λ c κs. search rules)  -- walk_all-requires
+    (λ c. c.walk_all.ensures.dumped.size ∙ c.walk_all-tried.ensures.dumped.size)  -- shape_of-out-then-accepted
     (λ c.
-    let a = c.before.before.before.before.before.before.before.before.before.before.before.before.before.before.before.before.before.before.before.before.before.before.before.before.args in
-    let r = c.before.before.before.before.before.before.before.before.before.before.before.before.before.before.before.before.before.walk-all in
-    rests_done _ _ _ a.d _ c.before.before.before.before.before.before.before.before.before.before.before.before.before.before.before.before.before.before.before.begin.result c.before.before.before.before.before.before.before.before.before.before.before.before.before.before.before.before.before.before.before.begin.ensures r.result _ r.ensures c.before.before.before.before.before.before.before.before.before.before.with-room.result
-    (c.before.before.before.before.before.before.before.before.before.before.with-room.ensures ∙ ap (λ (o : Outcome). with_room o (not r.result.pen.full)) c.before.before.before.before.before.before.before.before.before.before.before.before.judged.ensures)
-    c.before.before.before.before.before.before.before.before.choose.result (c.before.before.before.before.before.before.before.before.choose.ensures ∙ ap (λ (t : Bool). cond t r.result.state.place (length a.s.now)) c.before.before.before.before.before.before.before.before.before.refused.ensures)
-    (sym c.before.before.before.before.before.before.before.accepted.ensures ∙ c.before.before.before.before.before.before.if1.true) c.before.before.before.before.walk-all2.result _ c.before.before.before.before.walk-all2.ensures)  -- returns
-    (λ c. c.before.before.before.before.before.before.before.before.before.before.before.walk-all.ensures.dumped.size)  -- same-length-2
+    let a = c.args in
+    let r = c.walk_all-tried in
+    rests_done _ _ _ a.d _ c.begin-first.result c.begin-first.ensures r.result _ r.ensures c.with_room-outcome.result
+    (c.with_room-outcome.ensures ∙ ap (λ (o : Outcome). with_room o (not r.result.pen.full)) c.judged.ensures)
+    c.choose-place.result (c.choose-place.ensures ∙ ap (λ (t : Bool). cond t r.result.state.place (length a.s.now)) c.refused.ensures)
+    (sym c.accepted.ensures ∙ c.if-accepted.true) c.walk_all.result _ c.walk_all.ensures)  -- returns-then-accepted
+    (λ c. c.walk_all-tried.ensures.dumped.size)  -- shape_of-out
     (λ c.
-    let a = c.before.before.before.before.before.before.before.before.before.before.before.before.before.before.before.before.before.before.args in
-    let r = c.before.before.before.before.before.before.before.before.before.before.before.walk-all in
-    rests_refused _ _ _ a.d _ c.before.before.before.before.before.before.before.before.before.before.before.before.before.begin.result c.before.before.before.before.before.before.before.before.before.before.before.before.before.begin.ensures r.result _ r.ensures c.before.before.before.before.with-room.result
-    (c.before.before.before.before.with-room.ensures ∙ ap (λ (o : Outcome). with_room o (not r.result.pen.full)) c.before.before.before.before.before.before.judged.ensures)
-    c.before.before.choose.result (c.before.before.choose.ensures ∙ ap (λ (t : Bool). cond t r.result.state.place (length a.s.now)) c.before.before.before.refused.ensures)
-    (sym c.before.accepted.ensures ∙ c.if1.false))  -- returns-2
+    let a = c.args in
+    let r = c.walk_all-tried in
+    rests_refused _ _ _ a.d _ c.begin-first.result c.begin-first.ensures r.result _ r.ensures c.with_room-outcome.result
+    (c.with_room-outcome.ensures ∙ ap (λ (o : Outcome). with_room o (not r.result.pen.full)) c.judged.ensures)
+    c.choose-place.result (c.choose-place.ensures ∙ ap (λ (t : Bool). cond t r.result.state.place (length a.s.now)) c.refused.ensures)
+    (sym c.accepted.ensures ∙ c.if-accepted.false))  -- returns
     )

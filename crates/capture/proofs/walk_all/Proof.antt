@@ -9,8 +9,8 @@ pub walk_all_spec : {M : Type 1} → statement M
 walk_all_spec =
     tie.close
     (tie.spec
-    (λ c κs. search rules)  -- put-opening-requires
+    (λ c κs. search rules)  -- put_opening-p-requires
     (λ c κs. search rules)  -- walk-requires
-    (λ c. search rules)  -- same-length
-    (λ c. wholes (inked_emitted c.before.before.before.before.before.before.put-opening.ensures) c.before.before.walk.ensures)  -- returns
+    (λ c. search rules)  -- shape_of-out
+    (λ c. wholes (inked_emitted c.put_opening-p.ensures) c.walk.ensures)  -- returns
     )

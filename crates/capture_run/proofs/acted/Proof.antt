@@ -9,11 +9,11 @@ unfolding acted_of
 acted_spec =
     tie.close
     (tie.spec
-    (λ c. search rules)  -- enum_told
-    (λ c. search rules)  -- enum-told-2
-    (λ c. search rules)  -- enum-known-e
+    (λ c. search rules)  -- enum_told-1
+    (λ c. search rules)  -- enum_told-in-Mark
+    (λ c. search rules)  -- enum_known-e
     (λ c κs. search rules)  -- driven-requires
-    (λ c. rw c.enum_told.given.1)  -- returns
-    (λ c. rw c.enum-told2.given.1)  -- returns-2
-    (λ c. rw c.before.before.e.given.1 c.driven.ensures)  -- returns-3
+    (λ c. rw c.in-Nothing.is)  -- returns-in-Nothing
+    (λ c. rw c.in-Mark.is)  -- returns-in-Mark
+    (λ c. rw c.in-Change.is c.driven.ensures)  -- returns-in-Change
     )

@@ -9,5 +9,5 @@ begin_spec =
     (tie.spec
     (λ c κs. search rules)  -- answered-requires
     (λ c κs. search rules)  -- driven-requires
-    (λ c. rw (c.driven.ensures, c.before.answered.ensures))  -- returns
+    (λ c. rw (c.driven.ensures, c.answered.ensures))  -- returns
     )

@@ -12,10 +12,10 @@ use Rattle.capture_run.proofs.Inputs.{driven_next, driven_end}
 use Rattle.capture_run.proofs.driven.Statement.{statement}
 use Rattle.capture_run.proofs.driven.Tie as tie
 
-abbrev invariant_loop : tie.invariant_loop
+abbrev invariant_loop : tie.invariant-loop-w
 invariant_loop inputs level now₀ w₀ now w = (driven_of w level now ≡ driven_of inputs level now₀) × (w < 2 ^ 64)
 
-abbrev decreases_loop : tie.decreases_loop
+abbrev decreases_loop : tie.decreases-loop-w
 decreases_loop inputs level now₀ w₀ now w = w
 
 turn : (level : Bool) (now : Stepped) {k i : ℕ} {r : Stepped} → k ≡ i → r ≡ step_of now.device (Input k level) → r ≡ step_one true i level now
@@ -29,18 +29,18 @@ driven_spec =
     invariant_loop
     decreases_loop
     (λ c. (refl, c.ranges.inputs.fits))  -- loop-holds
-    (λ c κs. tt)  -- lowest-requires
-    (λ c. search rules)  -- cast-source
-    (λ c κs. tt)  -- step-requires
-    (λ c κs. tt)  -- clear-lowest-requires
-    (λ c. rw c.clear-lowest.ensures (clear_less 64 c.before.before.before.before.before.loop.invariant.1 c.before.before.before.before.loop-test.true))  -- loop-less
+    (λ c κs. tt)  -- lowest-source-requires
+    (λ c. search rules)  -- overflow_cast-source
+    (λ c κs. tt)  -- step-now-requires
+    (λ c κs. tt)  -- clear_lowest-w-requires
+    (λ c. rw c.clear_lowest-w.ensures (clear_less 64 c.loop-w.invariant.1 c.loop-w-test.true))  -- loop-less
     (λ c.
-    let a = c.before.before.before.before.before.before.args in
-    let l = c.before.before.before.before.before.loop in (
-      ap₂ (λ (w : ℕ) (n : Stepped). driven_of w a.level n) c.clear-lowest.ensures (turn a.level l.now c.before.before.before.lowest.ensures c.before.step.ensures)
-          ∙ driven_next a.level l.now l.invariant.1 c.before.before.before.before.loop-test.true
+    let a = c.args in
+    let l = c.loop-w in (
+      ap₂ (λ (w : ℕ) (n : Stepped). driven_of w a.level n) c.clear_lowest-w.ensures (turn a.level l.now c.lowest-source.ensures c.step-now.ensures)
+          ∙ driven_next a.level l.now l.invariant.1 c.loop-w-test.true
           ∙ l.invariant.0,
-      rw c.clear-lowest.ensures (put_lt 64 l.w _ false),
+      rw c.clear_lowest-w.ensures (put_lt 64 l.w _ false),
     ))  -- loop-again
-    (λ c. sym (driven_end c.before.before.args.level c.before.loop.now c.loop-test.false) ∙ c.before.loop.invariant.0)  -- returns
+    (λ c. sym (driven_end c.args.level c.loop-w.now c.loop-w-test.false) ∙ c.loop-w.invariant.0)  -- returns
     )
