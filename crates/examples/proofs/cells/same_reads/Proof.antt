@@ -3,10 +3,10 @@ use Rattle.std.proofs.Common.{◌-◌, rules}
 use Rattle.examples.proofs.cells.same_reads.Statement.{statement}
 use Rattle.examples.proofs.cells.same_reads.Tie as tie
 
-abbrev invariant_loop : tie.invariant_loop
+abbrev invariant_loop : tie.invariant-loop-k
 invariant_loop a b k₀ k = Unit {0}
 
-abbrev decreases_loop : tie.decreases_loop
+abbrev decreases_loop : tie.decreases-loop-k
 decreases_loop a b k₀ k = 124 - k
 
 pub same_reads_spec : {M : Type 1} → statement M
@@ -16,11 +16,11 @@ same_reads_spec =
     invariant_loop
     decreases_loop
     (λ c. search rules)  -- loop-holds
-    (λ c κs. search rules)  -- read-value-requires
-    (λ c κs. search rules)  -- read-value-requires-2
-    (λ c. search rules)  -- returns
-    (λ c. search rules)  -- add-k
+    (λ c κs. search rules)  -- read_value-requires
+    (λ c κs. search rules)  -- read_value-requires-in-loop-k
+    (λ c. search rules)  -- returns-then-read_value
+    (λ c. search rules)  -- overflow_step-k
     (λ c. search rules)  -- loop-less
     (λ c. search rules)  -- loop-again
-    (λ c. search rules)  -- returns-2
+    (λ c. search rules)  -- returns
     )

@@ -6,10 +6,10 @@ use borrow.Author.Rules.{rules}
 use Rattle.sim.proofs.parse.values_of.Statement.{statement}
 use Rattle.sim.proofs.parse.values_of.Tie as tie
 
-abbrev invariant_loop : tie.invariant_loop
+abbrev invariant_loop : tie.invariant-loop-i
 invariant_loop s words shape values₀ i₀ values i = length values ≡ 7
 
-abbrev decreases_loop : tie.decreases_loop
+abbrev decreases_loop : tie.decreases-loop-i
 decreases_loop s words shape values₀ i₀ values i = 6 - i
 
 pub values_of_spec : {M : Type 1} → statement M
@@ -19,16 +19,16 @@ values_of_spec =
     invariant_loop
     decreases_loop
     (λ c. search rules)  -- loop-holds
-    (λ c κs. search rules)  -- kind-at-requires
+    (λ c κs. search rules)  -- kind_at-requires
     (λ c κs. search rules)  -- word-requires
-    (λ c. search rules)  -- mul-value-of
-    (λ c. search rules)  -- array-read-value-of
-    (λ c κs. search rules)  -- value-of-requires
-    (λ c. search rules)  -- returns
-    (λ c. search rules)  -- mul-values
-    (λ c. search rules)  -- array-write-values
-    (λ c. search rules)  -- add-i
+    (λ c. search rules)  -- offset_bounds-values-i
+    (λ c. search rules)  -- bounds-values-i
+    (λ c κs. search rules)  -- value_of-value-requires
+    (λ c. search rules)  -- returns-then-value-ne-NONE
+    (λ c. search rules)  -- offset_bounds-values-i-in-loop-i
+    (λ c. search rules)  -- bounds-values-i-in-loop-i
+    (λ c. search rules)  -- overflow_add-i
     (λ c. search rules)  -- loop-less
     (λ c. search rules)  -- loop-again
-    (λ c. search rules)  -- returns-2
+    (λ c. search rules)  -- returns
     )

@@ -4,10 +4,10 @@ use borrow.Author.Rules.{rules}
 use Rattle.sim.proofs.words.find.Statement.{statement}
 use Rattle.sim.proofs.words.find.Tie as tie
 
-abbrev invariant_loop : tie.invariant_loop
+abbrev invariant_loop : tie.invariant-loop-n
 invariant_loop list word from₀ n₀ from n = Unit {0}
 
-abbrev decreases_loop : tie.decreases_loop
+abbrev decreases_loop : tie.decreases-loop-n
 decreases_loop list word from₀ n₀ from n = 16 - n
 
 pub find_spec : {M : Type 1} → statement M
@@ -17,12 +17,12 @@ find_spec =
     invariant_loop
     decreases_loop
     (λ c. search rules)  -- loop-holds
-    (λ c κs. search rules)  -- token-requires
+    (λ c κs. search rules)  -- token-span-requires
     (λ c κs. search rules)  -- part-requires
     (λ c κs. search rules)  -- same-requires
-    (λ c. search rules)  -- returns
-    (λ c. search rules)  -- add-n
+    (λ c. search rules)  -- returns-then-same
+    (λ c. search rules)  -- overflow_add-n
     (λ c. search rules)  -- loop-less
     (λ c. search rules)  -- loop-again
-    (λ c. search rules)  -- returns-2
+    (λ c. search rules)  -- returns
     )
