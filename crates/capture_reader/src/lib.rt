@@ -11,7 +11,7 @@ use capture::Replayed;
 use device::Device;
 use text::Span;
 
-#[derive(Drop)]
+#[derive(Clone, Copy)]
 pub struct Reader<'a> {
     pub text: &'a [u8],
     pub at: usize,

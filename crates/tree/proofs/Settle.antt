@@ -21,7 +21,7 @@ use Rattle.tree.specs.declared.Act.TheVariants as act
 use Rattle.tree.specs.declared.Write.TheVariants as write
 use Rattle.tree.specs.declared.Change.TheVariants as change
 use Rattle.tree.specs.Tree.{acted_of, applied_of, lines_of, moved_of, settled_of, unsettled_of, with_node}
-use Rattle.tree.specs.Private.{watched_before, watched_of, watched_settled}
+use Rattle.tree.specs.Private.{watched_before, watched_settled}
 
 -- ---- the edge choices stay, or the lines do
 

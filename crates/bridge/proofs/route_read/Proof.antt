@@ -1,4 +1,4 @@
-use mathlib.Core.Path.{sym, ◌∙◌}
+use mathlib.Core.Path.{sym}
 use Rattle.bits.proofs.Words.{word_mod}
 use borrow.Author.Rules.{rules}
 use Rattle.bridge.proofs.route_read.Statement.{statement}

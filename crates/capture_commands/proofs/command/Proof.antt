@@ -1,5 +1,4 @@
 -- `capture_commands::command` meets its contract.
-use borrow.Author.Rules.{rules}
 use Rattle.bits.proofs.Tests.{tests}
 use Rattle.capture_commands.specs.Commands.{command_of}
 use Rattle.capture_commands.proofs.command.Statement.{statement}

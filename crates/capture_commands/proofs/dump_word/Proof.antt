@@ -1,6 +1,5 @@
 -- `capture_commands::dump_word` meets its contract.
 use mathlib.Core.Path.{ap}
-use borrow.Author.Rules.{rules}
 use lib.Dec.{ltb}
 use Rattle.capture_tokens.specs.Tokens.{blank, attach, words, placed, tokens_from}
 use Rattle.capture_commands.proofs.dump_word.Statement.{statement}

@@ -1,7 +1,6 @@
 -- `capture_dump::emit` meets its contract.
 use mathlib.Core.Path.{refl, sym, ap, ◌∙◌}
 use borrow.Author.Rules.{rules}
-use borrow.Author.Tests.{not-true, not-false}
 use Rattle.capture_dump.specs.declared.Pen.{Pen}
 use Rattle.capture_dump.proofs.Pieces.{ink_kept, ink_full, ink_put}
 use Rattle.capture_dump.proofs.emit.Statement.{statement}

@@ -1,6 +1,5 @@
 -- `capture_dump::put_mark` meets its contract.
 use borrow.Author.Rules.{rules}
-use borrow.Author.Tests.{not-true, not-false}
 use Rattle.capture_dump.proofs.Pieces.{measured, overfull, written}
 use Rattle.capture_dump.proofs.put_mark.Statement.{statement}
 use Rattle.capture_dump.proofs.put_mark.Tie as tie

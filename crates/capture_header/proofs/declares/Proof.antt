@@ -1,5 +1,4 @@
 -- `capture_header::declares` meets its contract.
-use borrow.Author.Rules.{rules}
 use Rattle.bits.proofs.Tests.{tests}
 use Rattle.capture_header.specs.Header.{declares}
 use Rattle.capture_header.proofs.declares.Statement.{statement}

@@ -1,6 +1,5 @@
 -- `capture_header::kind` meets its contract.
 use mathlib.Core.Path.{ap}
-use borrow.Author.Rules.{rules}
 use lib.Dec.{ltb}
 use Rattle.capture_tokens.specs.Tokens.{blank, attach, words, placed, tokens_from}
 use Rattle.capture_header.proofs.kind.Statement.{statement}

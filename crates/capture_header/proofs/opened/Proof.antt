@@ -1,5 +1,4 @@
 -- `capture_header::opened` meets its contract.
-use borrow.Author.Rules.{rules}
 use Rattle.bits.proofs.Tests.{tests}
 use Rattle.capture_header.specs.Header.{opened}
 use Rattle.capture_header.proofs.opened.Statement.{statement}

@@ -1,7 +1,6 @@
 -- `capture_header::typed` meets its contract.
 use mathlib.Core.Path.{◌≡◌, sym, ◌∙◌}
 use mathlib.Core.Bool.{true, false}
-use borrow.Author.Rules.{rules}
 use Rattle.text.specs.Tokens.{same_of}
 use Rattle.capture_tokens.specs.Tokens.{one_of}
 use Rattle.capture_header.specs.Header.{wire_word, types, typed}

@@ -1,5 +1,4 @@
 -- `capture_names::input_of` meets its contract.
-use borrow.Author.Rules.{rules}
 use Rattle.capture_names.specs.Names.{input_of}
 use Rattle.capture_names.proofs.input_of.Statement.{statement}
 use Rattle.capture_names.proofs.input_of.Tie as tie

@@ -2,7 +2,6 @@
 use mathlib.Core.Path.{sym}
 use lib.ListN.{get_or}
 use borrow.Author.Rules.{rules}
-use borrow.Author.Tests.{eqb-true, not-false}
 use Rattle.bits.specs.Bits.{bit}
 use Rattle.bits.proofs.Words.{word_mod}
 use Rattle.lanes.specs.Bytes.{united}

@@ -1,5 +1,5 @@
 -- `numbers::separates` meets its contract.
-use borrow.Author.Tests.{eq-eqb, ne_eqb, not-true, not-false}
+use borrow.Author.Tests.{eq-eqb, ne_eqb}
 use Rattle.numbers.specs.Numbers.{separates}
 use Rattle.numbers.proofs.separates.Statement.{statement}
 use Rattle.numbers.proofs.separates.Tie as tie

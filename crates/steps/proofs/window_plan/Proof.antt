@@ -1,5 +1,4 @@
 use Rattle.steps.specs.Decide.{admitted_plan}
-use Rattle.bits.proofs.Tests.{tests}
 use borrow.Author.Rules.{rules}
 use Rattle.steps.proofs.window_plan.Statement.{statement}
 use Rattle.steps.proofs.window_plan.Tie as tie
