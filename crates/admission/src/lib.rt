@@ -141,6 +141,7 @@ pub fn input_verdict(source: u64) -> Verdict
 }
 
 // Node input change: 7.
+#[tactic(auto, unfolding(crate::specs::Refusals::node_input_refusals))]
 pub fn node_input_verdict(source: u64) -> Verdict
     ensures { result ≡ first_of (node_input_refusals source) }
 {

@@ -8,11 +8,13 @@ use lib.ListN.{get_or, length}
 use Rattle.bits.specs.Bits.{differ, held, merge}
 use Rattle.bits.specs.Writes.{moved}
 use Rattle.bits.proofs.Arrays.{set_differs}
+use Rattle.bits.proofs.Cond.{cond_ap}
 use Rattle.bits.proofs.Writes.{differ_held, differ_same}
 use Rattle.ipi_registers.specs.declared.Cell.{Cell}
 use Rattle.ipi_registers.specs.declared.Cell.TheVariants.{Status, Enable, MailBox}
 use Rattle.cores.specs.declared.Applied.{Applied}
 use Rattle.cores.specs.declared.Core.{Core}
+use Rattle.cores.specs.Cells.{with_enable, with_status}
 use Rattle.cores.specs.Core.{on}
 use Rattle.cores.specs.Moved.{cell_of, with_moved}
 
@@ -42,3 +44,12 @@ own_moved c h cell m v false = ap (with c) (sym (differ_same 64 (cell_of c cell)
 pub own_applied : (c : Core) → length c.mail ≡ 4 → (cell : Cell) (m v : ℕ) (own : Bool) {k : Core} → k ≡ cond own (on c cell m v) c
     → with k (cond own (carried c cell m v) 0) ≡ with_moved c (cond own (on c cell m v) c) cell
 own_applied c h cell m v own e = ap (λ (k : Core). with k (cond own (carried c cell m v) 0)) e ∙ own_moved c h cell m v own
+
+-- an effect on Status or Enable that is or is not a core's own, as the code makes it
+pub status_applied : (c : Core) (cell : Cell) (m v : ℕ) (own : Bool) → length c.mail ≡ 4 → cell ≡ Status
+    → with_moved c (cond own (on c cell m v) c) cell ≡ with (with_status c (cond own (merge 32 c.status m v) c.status)) (cond own (moved 32 c.status m v) 0)
+status_applied c cell m v own h e = rw e (sym (own_applied c h Status m v own (cond_ap (with_status c) own (merge 32 c.status m v) c.status)))
+
+pub enable_applied : (c : Core) (cell : Cell) (m v : ℕ) (own : Bool) → length c.mail ≡ 4 → cell ≡ Enable
+    → with_moved c (cond own (on c cell m v) c) cell ≡ with (with_enable c (cond own (merge 32 c.enable m v) c.enable)) (cond own (moved 32 c.enable m v) 0)
+enable_applied c cell m v own h e = rw e (sym (own_applied c h Enable m v own (cond_ap (with_enable c) own (merge 32 c.enable m v) c.enable)))

@@ -77,6 +77,7 @@ impl Core {
     }
 
     // The core after an effect, where the effect is its own, and the bits of the cell that then differ. Of a mailbox that is not there, none does.
+    #[tactic(auto, using(crate::proofs::Moved::status_applied, crate::proofs::Moved::enable_applied), unfolding(crate::specs::Core::applied_of))]
     pub fn applied(mut self, own: bool, effect: Effect) -> Applied
         ensures { result ≡ with_moved self (cond own (applied_of self effect) self) effect.cell }
     {

@@ -104,6 +104,7 @@ fn target_field(value: u64) -> u64
 }
 
 // The core whose cells a write reaches: the target of a send, and else the core itself.
+#[tactic(auto, unfolding(crate::specs::Effect::target_of))]
 pub fn target(register: Register, core: u64, value: u64) -> u64
     ensures { result ≡ target_of register core value }
 {

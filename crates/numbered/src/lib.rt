@@ -151,6 +151,7 @@ fn which(line: u64) -> Numbered
 
 // The step of a kind: unit is the core or the register's name, place the address, the offset, the source or the line that is searched, and value
 // what is written, the level or the switch.
+#[tactic(auto, unfolding(crate::specs::Numbered::kinds, crate::specs::Numbered::step_at))]
 pub fn step_of(kind: u64, unit: u64, place: u64, width: u64, value: u64) -> Numbered
     ensures { result ≡ step_at kind unit place width value }
 {

@@ -10,11 +10,11 @@ admit_spec =
     tie.close
     (tie.spec
     (λ c κs. search rules)  -- issuer-requires
-    (λ c. admission_core _ _ _ _ _ (omega (arith, c.issuer.ensures, c.if-issuer-gt1.true)))  -- returns-then-issuer-gt1
+    (λ c. admission_core _ _ _ _ _ (omega (arith, c.issuer.ensures)))  -- returns-then-issuer-gt1
     (λ c κs. search rules)  -- locate-requires
     (λ c. search rules)  -- enum_told-1
     (λ c. search rules)  -- enum_known-place
     (λ c κs. search rules)  -- admitted-requires
-    (λ c. admission_nowhere _ _ _ _ _ (omega (arith, c.issuer.ensures, c.if-issuer-gt1.false)) (sym c.locate.ensures ∙ c.in-Nowhere.is))  -- returns-in-Nowhere
-    (λ c. c.admitted.ensures ∙ admission_at _ _ _ _ _ _ _ (omega (arith, c.issuer.ensures, c.if-issuer-gt1.false)) (sym c.locate.ensures ∙ c.in-At.is))  -- returns-in-At
+    (λ c. admission_nowhere _ _ _ _ _ (omega (arith, c.issuer.ensures)) (sym c.locate.ensures ∙ c.in-Nowhere.is))  -- returns-in-Nowhere
+    (λ c. c.admitted.ensures ∙ admission_at _ _ _ _ _ _ _ (omega (arith, c.issuer.ensures)) (sym c.locate.ensures ∙ c.in-At.is))  -- returns-in-At
     )

@@ -9,6 +9,6 @@ unfolding input_refusals
 input_verdict_spec =
     tie.close
     (tie.spec
-    (λ c. rw (lt-ltb 63 c.args.source (omega (arith, c.if-source-gt63.true))))  -- returns-then-source-gt63
-    (λ c. rw (le-ltb 63 c.args.source (omega (arith, c.if-source-gt63.false))))  -- returns
+    (λ c. rw (lt-ltb 63 c.args.source (omega arith)))  -- returns-then-source-gt63
+    (λ c. rw (le-ltb 63 c.args.source (omega arith)))  -- returns
     )

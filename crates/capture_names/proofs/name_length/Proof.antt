@@ -3,6 +3,7 @@ use Prim.Native.Nat.{ℕ, suc, ◌+◌, ◌-◌}
 use mathlib.Core.Path.{◌≡◌}
 use mathlib.Core.List.{List}
 use native.Mathlib.Omega.{arith}
+use borrow.Author.Rules.{rules}
 use borrow.Author.Tests.{eq-eqb, ne_eqb}
 use lib.ListN.{length, get_or, drop, drop_of_length-le}
 use Rattle.numbers.proofs.Places.{from_place}
@@ -31,14 +32,14 @@ name_length_spec =
     (λ c.
     let t = c.before.before.before.before.args.t.now in
     let l = c.before.before.before.loop-i in
-    let z : left t l.i ≡ 0 = rw (from_place t l.i c.before.before.loop-i-test.true, eq-eqb (get_or t l.i 0) 91 c.if-t-i-eq91.true) in
+    let z : left t l.i ≡ 0 = rw (from_place t l.i c.before.before.loop-i-test.true, eq-eqb (get_or t l.i 0) 91 (omega arith)) in
     omega arith)  -- returns-then-t-i-eq91
     (λ c. omega arith)  -- overflow_add-i
     (λ c. omega arith)  -- loop-less
     (λ c.
     let t = c.before.before.before.before.args.t.now in
     let l = c.before.before.before.loop-i in
-    let z : left t l.i ≡ suc (left t (l.i + 1)) = rw (from_place t l.i c.before.before.loop-i-test.true, ne_eqb (get_or t l.i 0) 91 c.if-t-i-eq91.false) in
+    let z : left t l.i ≡ suc (left t (l.i + 1)) = rw (from_place t l.i c.before.before.loop-i-test.true, ne_eqb (get_or t l.i 0) 91 (search rules)) in
     omega arith)  -- loop-again
     (λ c.
     let t = c.before.before.args.t.now in

@@ -1,6 +1,7 @@
 -- `lanes::united` meets its contract, by the laws of `Rest`.
 use mathlib.Core.Path.{sym}
 use lib.ListN.{get_or}
+use native.Mathlib.Omega.{arith}
 use borrow.Author.Rules.{rules}
 use Rattle.bits.specs.Bits.{bit}
 use Rattle.bits.proofs.Words.{word_mod}
@@ -44,5 +45,5 @@ united_spec =
     (λ c κs. search rules)
     loop_less
     loop_again
-    (λ c. rest_full c.before.before.loop-w.invariant c.if-r-ne3.false)
+    (λ c. rest_full c.before.before.loop-w.invariant (omega arith))
     (λ c. rest_none c.before.loop-w.invariant c.loop-w-test.false))

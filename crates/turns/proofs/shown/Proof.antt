@@ -34,9 +34,9 @@ pub shown_spec : {M : Type 1} → statement M
 shown_spec =
     tie.close
     (tie.spec
-    (λ c. one_route c.before.args.auto c.before.args.turn _ c.before.ranges.route.fits c.if-to-lt3.true)  -- returns-then-to-lt3
+    (λ c. one_route c.args.auto c.args.turn c.args.route c.ranges.route.fits (omega arith))  -- returns-then-to-lt3
     (λ c. search rules)  -- overflow_cast-result
-    (λ c. Fits-below {n = 2} tt (omega (arith, digit_lt c.before.before.args.turn)))  -- overflow_add-result
-    (λ c. rw c.if-auto.true (both_routes true c.before.before.args.turn _ c.before.before.ranges.route.fits c.before.if-to-lt3.false))  -- returns-then-auto
-    (λ c. rw c.if-auto.false (both_routes false c.before.before.args.turn _ c.before.before.ranges.route.fits c.before.if-to-lt3.false))  -- returns-else-auto
+    (λ c. Fits-below {n = 2} tt (omega (arith, digit_lt c.args.turn)))  -- overflow_add-result
+    (λ c. rw c.if-auto.true (both_routes true c.args.turn c.args.route c.ranges.route.fits (omega arith)))  -- returns-then-auto
+    (λ c. rw c.if-auto.false (both_routes false c.args.turn c.args.route c.ranges.route.fits (omega arith)))  -- returns-else-auto
     )
