@@ -2,7 +2,8 @@
 """Brings this repository's own definitions and lemmas to snake case. Run once at the top of the repository, after /opt/rattle/port/port.py.
 
 A name is this repository's own if a file of specs/ or proofs/ gives it a signature. `withMask` and `bit-low` become `with_mask` and `bit_low`. Names that Rattle makes,
-functions, fields, strings and the library's names stay. `--list` prints each name and what it becomes, and changes nothing.
+functions, fields of types in src/, strings and the library's names stay; in a must-fail edit each word in camel case is turned. `--list` prints each name and what
+it becomes, and changes nothing. A second run would turn names that today's Rattle makes.
 """
 
 import glob
