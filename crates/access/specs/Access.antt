@@ -1,8 +1,11 @@
 -- The rights and widths of a register, and the refusals that every access to it may meet (01, "Refusal numbers", 4, 5 and 6).
 --   permitted   its rights allow the access     fitting   the value fits the width
 --   listed      its widths have the width       access_refusals   4, 5, 6
+--   entry       a register with its rights and widths     effect   a plain write
 use Rattle.std.specs.Prelude.{ℕ, ◌^◌, Bool, true, cond, not, ◌||◌, List, [], ◌∷◌, eqb, ltb}
 use Rattle.access.specs.declared.Access.{Access}
+use Rattle.access.specs.declared.Effect.{Effect}
+use Rattle.access.specs.declared.Entry.{Entry}
 use Rattle.access.specs.declared.Rights.{Rights}
 use Rattle.access.specs.declared.Rights.TheVariants.{Read, Write, Both}
 use Rattle.access.specs.declared.Widths.{Widths}
@@ -34,3 +37,13 @@ access_refusals access width write value =
     ∷ Right when not (permitted access.rights write)  -- 5
     ∷ Value when not (fitting width value)  -- 6
     ∷ []
+
+-- ---- the row of a table, and what a write does
+
+-- a register with its rights and widths
+abbrev pub entry : {R : Type 0} → R → Rights → Widths → Entry R
+entry register rights widths = record { register = register; access = record { rights = rights; widths = widths } }
+
+-- the bits of the cell that are in mask take the values in bits
+abbrev pub effect : {C : Type 0} → C → ℕ → ℕ → Effect C
+effect cell mask bits = record { cell = cell; mask = mask; bits = bits }

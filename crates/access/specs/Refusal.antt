@@ -2,11 +2,9 @@
 -- is given.
 --   refusal_number                   the numbers of a step's refusals     Check, _when_   a refusal and its test
 --   bad_text, earlier_time, no_room    those of a replay's                  first_of         the first of a list that applies
-use Rattle.std.specs.Prelude.{ℕ, Bool, cond, List, [], ◌∷◌}
+use Rattle.std.specs.Prelude.{ℕ, Bool, cond, List, [], ◌∷◌, Result, Ok, Err, ⊤}
 use Rattle.access.specs.declared.Refusal.{Refusal}
 use Rattle.access.specs.declared.Refusal.TheVariants.{Core, Register, Window, Width, Right, Value, Source, Distribution, NoneInService}
-use Rattle.access.specs.declared.Verdict.{Verdict}
-use Rattle.access.specs.declared.Verdict.TheVariants.{Accepted, Refused}
 
 -- ---- the table
 
@@ -44,6 +42,6 @@ abbrev pub ◌when◌ : Refusal → Bool → Check
 reason when applies = record { reason = reason; applies = applies }
 
 -- the first that applies is given
-abbrev pub first_of : List Check → Verdict
-first_of [] = Accepted
-first_of (c ∷ cs) = cond c.applies (Refused c.reason) (first_of cs)
+abbrev pub first_of : List Check → Result ⊤ Refusal
+first_of [] = Ok tt
+first_of (c ∷ cs) = cond c.applies (Err c.reason) (first_of cs)

@@ -1,4 +1,5 @@
-// What every register block shares: refusals and their numbers, the rights and widths of a register, and the refusals of an access to it.
+// What every register block shares: refusals and their numbers, the rights and widths of a register, the refusals of an access to it, and the
+// forms of a table's row and of what a write does.
 #![tactic(auto)]
 
 ghost use Rattle.std.specs.Prelude.{◌≡◌};
@@ -6,7 +7,7 @@ ghost use Rattle.access.specs.Refusal.{first_of, refusal_number};
 ghost use Rattle.access.specs.Access.{access_refusals, fitting, listed, permitted};
 
 // Why a step is refused, in the order of the numbers: 1 to 9.
-#[derive(Clone, Copy)]
+#[derive(Clone, Copy, PartialEq, Eq)]
 pub enum Refusal {
     Core,
     Register,
@@ -19,20 +20,45 @@ pub enum Refusal {
     NoneInService,
 }
 
-#[derive(Clone, Copy)]
-pub enum Verdict {
-    Accepted,
-    Refused(Refusal),
+// The number of a refusal.
+impl From<Refusal> for u64 {
+    ghost use Rattle.std.specs.Prelude.{◌≡◌};
+    ghost use Rattle.access.specs.Refusal.{refusal_number};
+
+    ghost from_gives = { λ refusal number. number ≡ refusal_number refusal };
+
+    #[tactic(auto, unfolding(crate::specs::Refusal::refusal_number))]
+    fn from(refusal: Refusal) -> u64 {
+        match refusal {
+            Refusal::Core => 1,
+            Refusal::Register => 2,
+            Refusal::Window => 3,
+            Refusal::Width => 4,
+            Refusal::Right => 5,
+            Refusal::Value => 6,
+            Refusal::Source => 7,
+            Refusal::Distribution => 8,
+            Refusal::NoneInService => 9,
+        }
+    }
 }
 
-#[derive(Clone, Copy)]
+// The numbers of a replay's refusals.
+// Numbers by name and no enum: the nine cases above are what a step may be refused, and these stand in one table with them (docs/DECISIONS.md, B49).
+pub const BAD_TEXT: u64 = 10;
+
+pub const EARLIER_TIME: u64 = 11;
+
+pub const NO_ROOM: u64 = 12;
+
+#[derive(Clone, Copy, PartialEq, Eq)]
 pub enum Rights {
     Read,
     Write,
     Both,
 }
 
-#[derive(Clone, Copy)]
+#[derive(Clone, Copy, PartialEq, Eq)]
 pub enum Widths {
     One,
     Four,
@@ -47,30 +73,63 @@ pub struct Access {
     pub widths: Widths,
 }
 
-// The number of a refusal.
-pub fn refusal_number(refusal: Refusal) -> u64
-    ensures { result ≡ refusal_number refusal }
-{
-    match refusal {
-        Refusal::Core => 1,
-        Refusal::Register => 2,
-        Refusal::Window => 3,
-        Refusal::Width => 4,
-        Refusal::Right => 5,
-        Refusal::Value => 6,
-        Refusal::Source => 7,
-        Refusal::Distribution => 8,
-        Refusal::NoneInService => 9,
+// A register that an offset names, and how it may be accessed.
+#[derive(Clone, Copy)]
+pub struct Entry<R> {
+    pub register: R,
+    pub access: Access,
+}
+
+impl<R: Copy> Entry<R> {
+    ghost use Rattle.std.specs.Prelude.{◌≡◌};
+    ghost use Rattle.access.specs.Access.{entry};
+
+    pub fn new(register: R, rights: Rights, widths: Widths) -> Self
+        ensures { result ≡ entry register rights widths }
+    {
+        Entry {
+            register,
+            access: Access { rights, widths },
+        }
     }
 }
 
-// The numbers of a replay's refusals.
-pub const BAD_TEXT: u64 = 10;
+// A plain write: the bits of the cell that are in mask take the values in bits.
+#[derive(Clone, Copy)]
+pub struct Effect<C> {
+    pub cell: C,
+    pub mask: u64,
+    pub bits: u64,
+}
 
-pub const EARLIER_TIME: u64 = 11;
+impl<C: Copy> Effect<C> {
+    ghost use Rattle.std.specs.Prelude.{◌≡◌};
+    ghost use Rattle.access.specs.Access.{effect};
 
-pub const NO_ROOM: u64 = 12;
+    pub fn new(cell: C, mask: u64, bits: u64) -> Self
+        ensures { result ≡ effect cell mask bits }
+    {
+        Effect { cell, mask, bits }
+    }
+}
 
+// What an accepted write does: a plain write to a cell, or another change.
+#[derive(Clone, Copy)]
+pub enum Written<C, X> {
+    Plain(Effect<C>),
+    Changed(X),
+}
+
+// What an access carries: its width, whether it writes, and the value that it writes, 0 of a read.
+// No `written: Option<u64>`: the tests of width, value and target are of reads too, and would each unwrap it to 0.
+#[derive(Clone, Copy)]
+pub struct Transfer {
+    pub width: u64,
+    pub write: bool,
+    pub value: u64,
+}
+
+#[tactic(auto, unfolding(crate::specs::Access::permitted))]
 pub fn permits(rights: Rights, write: bool) -> bool
     ensures { result ≡ permitted rights write }
 {
@@ -81,6 +140,7 @@ pub fn permits(rights: Rights, write: bool) -> bool
     }
 }
 
+#[tactic(auto, unfolding(crate::specs::Access::listed))]
 fn lists(widths: Widths, width: u64) -> bool
     ensures { result ≡ listed widths width }
 {
@@ -93,6 +153,7 @@ fn lists(widths: Widths, width: u64) -> bool
 }
 
 // The value fits the width. Eight bytes hold every u64.
+#[tactic(auto, unfolding(crate::specs::Access::fitting))]
 fn fits(width: u64, value: u64) -> bool
     ensures { result ≡ fitting width value }
 {
@@ -104,19 +165,18 @@ fn fits(width: u64, value: u64) -> bool
 }
 
 // The first refusal that applies, of 4, 5 and 6.
-pub fn judge(access: Access, width: u64, write: bool, value: u64) -> Verdict
-    ensures { result ≡ first_of (access_refusals access width write value) }
+#[tactic(auto, unfolding(crate::specs::Access::access_refusals))]
+pub fn judge(access: Access, transfer: Transfer) -> Result<(), Refusal>
+    ensures { result ≡ first_of (access_refusals access transfer.width transfer.write transfer.value) }
 {
-    let rights = access.rights;
-    let widths = access.widths;
-    if lists(widths, width) {
-        if permits(rights, write) {
-            if fits(width, value) {
-                return Verdict::Accepted;
-            }
-            return Verdict::Refused(Refusal::Value);
-        }
-        return Verdict::Refused(Refusal::Right);
+    if !lists(access.widths, transfer.width) {
+        return Err(Refusal::Width);
     }
-    Verdict::Refused(Refusal::Width)
+    if !permits(access.rights, transfer.write) {
+        return Err(Refusal::Right);
+    }
+    if !fits(transfer.width, transfer.value) {
+        return Err(Refusal::Value);
+    }
+    Ok(())
 }

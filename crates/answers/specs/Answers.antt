@@ -2,22 +2,21 @@
 -- one word.
 --   outcome_number   the refusal number     outcome_data   the read data
 --   first_four       the four lines of 01   lines_word     the twelve lines, the first as bit 0
-use Rattle.std.specs.Prelude.{ℕ, ◌-◌, Bool, false, cond, List, [], ◌∷◌, ltb, get_or}
+use Rattle.std.specs.Prelude.{ℕ, ◌-◌, Bool, false, cond, List, [], ◌∷◌, Result, Ok, Err, ltb, get_or}
 use Rattle.bits.specs.Bits.{bit, word}
 use Rattle.answers.specs.declared.Answer.{Answer}
+use Rattle.access.specs.declared.Refusal.{Refusal}
 use Rattle.access.specs.Refusal.{refusal_number}
-use Rattle.answers.specs.declared.Outcome.{Outcome}
-use Rattle.answers.specs.declared.Outcome.TheVariants.{Value, Refused}
 
 -- the number of a refusal, and 0 where the step was accepted
-unfoldable pub outcome_number : Outcome → ℕ
-outcome_number (Value v) = 0
-outcome_number (Refused reason) = refusal_number reason
+unfoldable pub outcome_number : Result ℕ Refusal → ℕ
+outcome_number (Ok v) = 0
+outcome_number (Err reason) = refusal_number reason
 
 -- the read data: 0 for a refusal
-unfoldable pub outcome_data : Outcome → ℕ
-outcome_data (Value v) = v
-outcome_data (Refused reason) = 0
+unfoldable pub outcome_data : Result ℕ Refusal → ℕ
+outcome_data (Ok v) = v
+outcome_data (Err reason) = 0
 
 -- IPI of core 0 and 1, bridge 0 and 1
 abbrev pub first_four : Answer → List Bool

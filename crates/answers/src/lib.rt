@@ -6,11 +6,8 @@ ghost use Rattle.answers.specs.Answers.{lines_word, outcome_data, outcome_number
 
 use access::Refusal;
 
-#[derive(Clone, Copy)]
-pub enum Outcome {
-    Value(u64),
-    Refused(Refusal),
-}
+// What a step gives: the data that a read gave (0 for any other step), or why the step was refused.
+pub type Outcome = Result<u64, Refusal>;
 
 // The outcome, the bits that a write moved (request Q-8), and the lines after the step: IPI of core 0 and 1, bridge 0 and 1, and the line of core c
 // and pin p as bit 4 * c + p of the pins.
@@ -25,26 +22,24 @@ pub struct Answer {
     pub pins: u8,
 }
 
-impl Outcome {
-    // The number of the refusal, and 0 where the step was accepted.
-    pub fn number(self) -> u64
-        ensures { result ≡ outcome_number self }
-    {
-        match self {
-            Outcome::Value(_) => 0,
-            Outcome::Refused(refusal) => access::refusal_number(refusal),
-        }
+// The number of the refusal, and 0 where the step was accepted.
+// 0 and no Option: a step's number is 0 where it was accepted, as `outcome_number` says and the answers print.
+#[tactic(auto, unfolding(crate::specs::Answers::outcome_number))]
+pub fn number(outcome: Outcome) -> u64
+    ensures { result ≡ outcome_number outcome }
+{
+    match outcome {
+        Ok(_) => 0,
+        Err(refusal) => u64::from(refusal),
     }
+}
 
-    // The read data: 0 for a refusal.
-    pub fn data(self) -> u64
-        ensures { result ≡ outcome_data self }
-    {
-        match self {
-            Outcome::Value(value) => value,
-            Outcome::Refused(_) => 0,
-        }
-    }
+// The read data: 0 for a refusal.
+#[tactic(auto, unfolding(crate::specs::Answers::outcome_data))]
+pub fn data(outcome: Outcome) -> u64
+    ensures { result ≡ outcome_data outcome }
+{
+    outcome.unwrap_or(0)
 }
 
 impl Answer {

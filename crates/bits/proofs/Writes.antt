@@ -5,17 +5,14 @@ use Prim.Native.Nat.{ℕ, ◌+◌, ◌*◌, ◌≤◌, ◌<◌, ◌^◌, ◌%◌
 use borrow.Author.Tests.{ne_eqb}
 use native.Mathlib.Nat.{one-mul}
 use native.Mathlib.Omega.{arith}
-use lib.Bits.{bit_xor}
 use lib.Dec.{eqb, ltb}
 use lib.Pow.{pow-lt, pow_pos}
-use mir.Syntax.{Width}
-use mir.Val.{Fits, bits}
 use Rattle.bits.specs.Bits.{bit, differ, digit, held, word, merge, put}
 use Rattle.bits.specs.Writes.{moved}
 use Rattle.bits.specs.Latch.{risen, cleared, latched}
 use Rattle.bits.proofs.Taut.{taut}
-use Rattle.bits.proofs.Words.{bit_digit, word_cong, bit_of_word, bit_word, bit_zero, is_word, low_word, word_lt}
-use Rattle.bits.proofs.Operations.{bit_one, word_low, xor_differ}
+use Rattle.bits.proofs.Words.{bit_digit, word_cong, bit_of_word, bit_word, bit_zero, is_word, low_word}
+use Rattle.bits.proofs.Operations.{bit_one, word_low}
 
 pub bit_merge : (k o m v i : ℕ) → i < k → bit (merge k o m v) i ≡ cond (bit m i) (bit v i) (bit o i)
 unfolding merge
@@ -54,11 +51,6 @@ xor_same = taut 1 _ _ tt
 pub differ_same : (k n : ℕ) → differ k n n ≡ 0
 unfolding differ
 differ_same k n = sym (is_word k (pow_pos k) (λ i h. bit_zero i ∙ sym (xor_same (bit n i))))
-
--- `old ^ word` where `word` is a masked write of `old`
-pub xor_merge : (w : Width) {o : ℕ} → Fits w o → (m v : ℕ) → bit_xor o (merge (bits w) o m v) ≡ moved (bits w) o m v
-unfolding merge
-xor_merge w h m v = xor_differ w h (record { fits = word_lt (bits w) _ })
 
 -- two numbers as cells of j bits hold them differ in their j low bits
 xor_both : (t a b : Bool) → xor (t && a) (t && b) ≡ (xor a b && t)

@@ -1,1 +1,3 @@
 pub mod Moved
+mod Shown
+mod Which

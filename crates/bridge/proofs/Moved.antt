@@ -7,6 +7,7 @@ use native.Mathlib.Omega.{arith}
 use lib.Dec.{ltb}
 use lib.ListN.{get_or, length, set}
 use Rattle.bits.specs.Bits.{bit, held, merge}
+use Rattle.bits.specs.declared.After.{After}
 use Rattle.bits.specs.Writes.{moved}
 use Rattle.bits.proofs.Arrays.{set_differs}
 use Rattle.bits.proofs.Words.{word_bit, word_lt}
@@ -14,14 +15,13 @@ use Rattle.bits.proofs.Writes.{differ_held, latched_same}
 use Rattle.bridge_registers.specs.declared.Change.{Change}
 use Rattle.bridge_registers.specs.declared.Change.TheVariants.{Edge, Soft, Auto, Latch, Nothing}
 use Rattle.bridge.specs.declared.Bridge.{Bridge}
-use Rattle.bridge.specs.declared.Routed.{Routed}
 use Rattle.bridge.specs.Sources.{drive_word}
 use Rattle.bridge.specs.Changes.{before_of, latched_of, moved_of, settled_of, turned_of}
 use Rattle.bridge.specs.Moved.{changed_cell}
 use Rattle.bridge.specs.Private.{route_moved}
 
-abbrev with : List ℕ → ℕ → ℕ → ℕ → ℕ → Routed
-with routes i m v moved = record { routes = set routes i (merge 2 (get_or routes i 0) m v); moved = moved }
+abbrev with : List ℕ → ℕ → ℕ → ℕ → ℕ → After (List ℕ)
+with routes i m v moved = record { state = set routes i (merge 2 (get_or routes i 0) m v); moved = moved }
 
 -- a route: its two bits, and nothing of one that is not there
 pub moved_route : (routes : List ℕ) → length routes ≡ 64 → (i m v : ℕ)

@@ -10,7 +10,7 @@ use Rattle.bits.specs.Latch.{latched}
 use Rattle.turns.specs.Turns.{turns_of}
 use Rattle.bridge_registers.specs.declared.Cell.{Cell}
 use Rattle.bridge_registers.specs.declared.Cell.TheVariants.{Mask, Msi, Route}
-use Rattle.bridge_registers.specs.declared.Effect.{Effect}
+use Rattle.access.specs.declared.Effect.{Effect}
 use Rattle.bridge_registers.specs.declared.Change.{Change}
 use Rattle.bridge_registers.specs.declared.Change.TheVariants.{Edge, Soft, Auto, Latch, Nothing}
 use Rattle.bridge.specs.declared.Before.{Before}
@@ -24,7 +24,7 @@ on b Mask m v = with_mask b (merge 64 b.mask m v)
 on b Msi m v = with_msi b (merge 64 b.msi m v)
 on b (Route i) m v = with_routes b (set b.routes i (merge 2 (route_of b i) m v))
 
-unfoldable pub applied_of : Bridge → Effect → Bridge
+unfoldable pub applied_of : Bridge → Effect Cell → Bridge
 applied_of b e = on b e.cell e.mask e.bits
 
 -- ---- changes that are not plain: what the step itself moves

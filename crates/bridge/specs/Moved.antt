@@ -4,11 +4,11 @@
 --   write_moved, change_moved   a bridge after either, with the bits in which that cell differs before and after
 use Rattle.std.specs.Prelude.{ℕ}
 use Rattle.bits.specs.Bits.{differ, held}
+use Rattle.bits.specs.declared.After.{After}
 use Rattle.bridge_registers.specs.declared.Cell.{Cell}
 use Rattle.bridge_registers.specs.declared.Cell.TheVariants.{Mask, Msi, Route}
 use Rattle.bridge_registers.specs.declared.Change.{Change}
 use Rattle.bridge_registers.specs.declared.Change.TheVariants.{Edge, Soft, Auto, Latch, Nothing}
-use Rattle.bridge.specs.declared.Applied.{Applied}
 use Rattle.bridge.specs.declared.Bridge.{Bridge}
 use Rattle.bridge.specs.Sources.{route_of}
 
@@ -26,8 +26,8 @@ changed_cell b (Auto mask bits) = held 64 b.auto
 changed_cell b (Latch mask bits) = held 64 b.latch
 changed_cell b Nothing = 0
 
-abbrev pub write_moved : Bridge → Bridge → Cell → Applied
-write_moved before after cell = record { bridge = after; moved = differ 64 (cell_of before cell) (cell_of after cell) }
+abbrev pub write_moved : Bridge → Bridge → Cell → After Bridge
+write_moved before after cell = record { state = after; moved = differ 64 (cell_of before cell) (cell_of after cell) }
 
-abbrev pub change_moved : Bridge → Bridge → Change → Applied
-change_moved before after change = record { bridge = after; moved = differ 64 (changed_cell before change) (changed_cell after change) }
+abbrev pub change_moved : Bridge → Bridge → Change → After Bridge
+change_moved before after change = record { state = after; moved = differ 64 (changed_cell before change) (changed_cell after change) }

@@ -3,15 +3,14 @@
 --   drive       its input or its soft bit            pending_at   a request that is neither masked nor sent as a message
 --   request_at   what INTIRR shows                    in_service   what INTISR_CHIPk shows        line_of   some source is in service
 --   read_of      what a register reads as             which_of     the lowest-numbered source in service (request Q-5)
-use Rattle.std.specs.Prelude.{ℕ, Bool, cond, not, ◌&&◌, ◌||◌, get_or}
+use Rattle.std.specs.Prelude.{ℕ, Bool, cond, not, ◌&&◌, ◌||◌, get_or, Result, Ok, Err}
 use Rattle.bits.specs.Bits.{bit, word, some, first}
 use Rattle.turns.specs.Turns.{shown_on}
 use Rattle.bridge_registers.specs.declared.Register.{Register}
 use Rattle.bridge_registers.specs.declared.Register.TheVariants.{IntMask, MsiEn, IntEdge, SoftInt, AutoCtrl0, AutoCtrl1, IntClr, IntIsrChip0, IntIsrChip1, IntIrr, RouteEntry}
 use Rattle.bridge_registers.specs.declared.Chip.{Chip}
 use Rattle.bridge_registers.specs.Registers.{in_service_at}
-use Rattle.answers.specs.declared.Outcome.{Outcome}
-use Rattle.answers.specs.declared.Outcome.TheVariants.{Value, Refused}
+use Rattle.access.specs.declared.Refusal.{Refusal}
 use Rattle.access.specs.declared.Refusal.TheVariants.{NoneInService}
 use Rattle.bridge.specs.declared.Bridge.{Bridge}
 
@@ -72,7 +71,7 @@ read_of b (RouteEntry source) = word 2 (bit (route_of b source))  -- bits 7..2 r
 
 -- the lowest-numbered source with its bit set in INTISR_CHIP0 or INTISR_CHIP1, whichever is asked for, by a reading of all 64; refused, with 9,
 -- exactly if no source has its bit set
-unfoldable pub which_of : Bridge → Chip → Outcome
+unfoldable pub which_of : Bridge → Chip → Result ℕ Refusal
 which_of b chip =
     let set = bit (read_of b (in_service_at chip)) in
-    cond (some 64 set) (Value (first 64 set)) (Refused NoneInService)
+    cond (some 64 set) (Ok (first 64 set)) (Err NoneInService)

@@ -2,9 +2,12 @@
 --   row_of         rights, and what a write may hold     sized         a written value fits the register
 --   written_of     what a write does                     distributed   it asks for fixed or turn mode
 --   in_service_at   the words of the sources in service
-use Rattle.std.specs.Prelude.{ℕ, ◌^◌, Bool, true, eqb, leb, ltb}
+use Rattle.std.specs.Prelude.{ℕ, ◌^◌, Bool, true, eqb, leb, ltb, Option, Some, None}
+use Rattle.access.specs.Access.{effect}
 use Rattle.access.specs.declared.Rights.{Rights}
 use Rattle.access.specs.declared.Rights.TheVariants.{Read, Write, Both}
+use Rattle.access.specs.declared.Written.{Written}
+use Rattle.access.specs.declared.Written.TheVariants.{Plain, Changed}
 use Rattle.bridge_registers.specs.declared.Register.{Register}
 use Rattle.bridge_registers.specs.declared.Register.TheVariants.{IntMask, MsiEn, IntEdge, SoftInt, AutoCtrl0, AutoCtrl1, IntClr, IntIsrChip0, IntIsrChip1, IntIrr, RouteEntry}
 use Rattle.bridge_registers.specs.declared.Chip.{Chip}
@@ -14,26 +17,25 @@ use Rattle.bridge_registers.specs.declared.Holds.TheVariants.{Word, Zero, Byte}
 use Rattle.bridge_registers.specs.declared.Row.{Row}
 use Rattle.bridge_registers.specs.declared.Cell.{Cell}
 use Rattle.bridge_registers.specs.declared.Cell.TheVariants.{Mask, Msi, Route}
+use Rattle.bridge_registers.specs.declared.Change.{Change}
 use Rattle.bridge_registers.specs.declared.Change.TheVariants.{Edge, Soft, Auto, Latch, Nothing}
-use Rattle.bridge_registers.specs.declared.Written.{Written}
-use Rattle.bridge_registers.specs.declared.Written.TheVariants.{Plain, Changed}
 
-abbrev row : ℕ → Rights → Holds → Row
+abbrev pub row : Option ℕ → Rights → Holds → Row
 row source rights holds = record { source = source; rights = rights; holds = holds }
 
 -- source, rights, what a write may hold; only ROUTE_ENTRY has a source
 unfoldable pub row_of : Register → Row
-row_of IntMask = row 0 Both Word
-row_of MsiEn = row 0 Both Word
-row_of IntEdge = row 0 Both Word
-row_of SoftInt = row 0 Both Word
-row_of AutoCtrl0 = row 0 Both Word
-row_of AutoCtrl1 = row 0 Both Zero
-row_of IntClr = row 0 Write Word
-row_of IntIsrChip0 = row 0 Read Word
-row_of IntIsrChip1 = row 0 Read Word
-row_of IntIrr = row 0 Read Word
-row_of (RouteEntry source) = row source Both Byte
+row_of IntMask = row None Both Word
+row_of MsiEn = row None Both Word
+row_of IntEdge = row None Both Word
+row_of SoftInt = row None Both Word
+row_of AutoCtrl0 = row None Both Word
+row_of AutoCtrl1 = row None Both Zero
+row_of IntClr = row None Write Word
+row_of IntIsrChip0 = row None Read Word
+row_of IntIsrChip1 = row None Read Word
+row_of IntIrr = row None Read Word
+row_of (RouteEntry source) = row (Some source) Both Byte
 
 -- the value fits: 64 bits, or a route of at most 255. A bridge word that does not fit cannot be written by a u64.
 unfoldable pub sized : Holds → ℕ → Bool
@@ -47,10 +49,10 @@ distributed Word value = true
 distributed Zero value = eqb value 0
 distributed Byte value = true
 
-abbrev plain : Cell → ℕ → ℕ → Written
-plain cell mask bits = Plain (record { cell = cell; mask = mask; bits = bits })
+abbrev plain : Cell → ℕ → ℕ → Written Cell Change
+plain cell mask bits = Plain (effect cell mask bits)
 
-unfoldable pub written_of : Register → ℕ → Written
+unfoldable pub written_of : Register → ℕ → Written Cell Change
 written_of IntMask value = plain Mask 0xffffffffffffffff value
 written_of MsiEn value = plain Msi 0xffffffffffffffff value
 written_of IntEdge value = Changed (Edge 0xffffffffffffffff value)

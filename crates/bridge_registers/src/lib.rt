@@ -2,12 +2,12 @@
 #![tactic(auto)]
 
 ghost use Rattle.std.specs.Prelude.{◌≡◌};
-ghost use Rattle.bridge_registers.specs.Registers.{distributed, row_of, sized, written_of};
+ghost use Rattle.bridge_registers.specs.Registers.{distributed, row, row_of, sized, written_of};
 
 use access::Rights;
 
 // The registers of table 8-2, in the order of 01.
-#[derive(Clone, Copy)]
+#[derive(Clone, Copy, PartialEq, Eq)]
 pub enum Register {
     IntMask,
     MsiEn,
@@ -23,24 +23,24 @@ pub enum Register {
 }
 
 // The two words of the sources in service, INTISR_CHIP0 and INTISR_CHIP1, of which a search asks for one.
-#[derive(Clone, Copy)]
+#[derive(Clone, Copy, PartialEq, Eq)]
 pub enum Chip {
     Chip0,
     Chip1,
 }
 
 // What a written value may be.
-#[derive(Clone, Copy)]
+#[derive(Clone, Copy, PartialEq, Eq)]
 pub enum Holds {
     Word,
     Zero,
     Byte,
 }
 
-// A register's row: its source number (0 but for ROUTE_ENTRY), its rights, and what a write may hold.
+// A register's row: its source number (ROUTE_ENTRY alone has one), its rights, and what a write may hold.
 #[derive(Clone, Copy)]
 pub struct Row {
-    pub source: u64,
+    pub source: Option<u64>,
     pub rights: Rights,
     pub holds: Holds,
 }
@@ -53,15 +53,11 @@ pub enum Cell {
     Route(u64),
 }
 
-// The bits of the cell that are in mask take the values in bits.
-#[derive(Clone, Copy)]
-pub struct Effect {
-    pub cell: Cell,
-    pub mask: u64,
-    pub bits: u64,
-}
+// A plain write.
+pub type Effect = access::Effect<Cell>;
 
 // A change that is not plain: bits of the modes, of the soft bits, of the turn modes (AUTO_CTRL0) or of the latches take values, or none.
+// Nothing is a case: an Option around the other four would stand within Written::Changed alone.
 #[derive(Clone, Copy)]
 pub enum Change {
     Edge { mask: u64, bits: u64 },
@@ -72,39 +68,37 @@ pub enum Change {
 }
 
 // What an accepted write does.
-#[derive(Clone, Copy)]
-pub enum Written {
-    Plain(Effect),
-    Changed(Change),
-}
+pub type Written = access::Written<Cell, Change>;
 
+// The row of a register that is no ROUTE_ENTRY.
 fn row_with(rights: Rights, holds: Holds) -> Row
-    ensures { result ≡ record { source = 0; rights = rights; holds = holds } }
+    ensures { result ≡ row None rights holds }
 {
     Row {
-        source: 0,
-        rights: rights,
-        holds: holds,
+        source: None,
+        rights,
+        holds,
     }
 }
 
 // The row of a register.
+#[tactic(auto, unfolding(crate::specs::Registers::row_of))]
 pub fn row_of(register: Register) -> Row
     ensures { result ≡ row_of register }
 {
     match register {
-        Register::IntMask => row_with(Rights::Both, Holds::Word),
-        Register::MsiEn => row_with(Rights::Both, Holds::Word),
-        Register::IntEdge => row_with(Rights::Both, Holds::Word),
-        Register::SoftInt => row_with(Rights::Both, Holds::Word),
-        Register::AutoCtrl0 => row_with(Rights::Both, Holds::Word),
+        Register::IntMask
+        | Register::MsiEn
+        | Register::IntEdge
+        | Register::SoftInt
+        | Register::AutoCtrl0 => row_with(Rights::Both, Holds::Word),
         Register::AutoCtrl1 => row_with(Rights::Both, Holds::Zero),
         Register::IntClr => row_with(Rights::Write, Holds::Word),
-        Register::IntIsrChip0 => row_with(Rights::Read, Holds::Word),
-        Register::IntIsrChip1 => row_with(Rights::Read, Holds::Word),
-        Register::IntIrr => row_with(Rights::Read, Holds::Word),
+        Register::IntIsrChip0 | Register::IntIsrChip1 | Register::IntIrr => {
+            row_with(Rights::Read, Holds::Word)
+        }
         Register::RouteEntry(source) => Row {
-            source: source,
+            source: Some(source),
             rights: Rights::Both,
             holds: Holds::Byte,
         },
@@ -112,73 +106,53 @@ pub fn row_of(register: Register) -> Row
 }
 
 // A route is a byte; every other register is a word, as every u64 is.
+#[tactic(auto, unfolding(crate::specs::Registers::sized))]
 pub fn fits(holds: Holds, value: u64) -> bool
     ensures { result ≡ sized holds value }
 {
     match holds {
-        Holds::Word => true,
-        Holds::Zero => true,
+        Holds::Word | Holds::Zero => true,
         Holds::Byte => value <= 255,
     }
 }
 
 // AUTO_CTRL1 holds 0 alone.
+#[tactic(auto, unfolding(crate::specs::Registers::distributed))]
 pub fn held(holds: Holds, value: u64) -> bool
     ensures { result ≡ distributed holds value }
 {
     match holds {
-        Holds::Word => true,
         Holds::Zero => value == 0,
-        Holds::Byte => true,
+        Holds::Word | Holds::Byte => true,
     }
 }
 
-fn plain(cell: Cell, mask: u64, bits: u64) -> Written
-    ensures { result ≡ Written.Plain (record { cell = cell; mask = mask; bits = bits }) }
-{
-    Written::Plain(Effect {
-        cell: cell,
-        mask: mask,
-        bits: bits,
-    })
-}
-
-fn changed(change: Change) -> Written
-    ensures { result ≡ Written.Changed change }
-{
-    Written::Changed(change)
-}
-
-// Every bit of a word.
-const ALL: u64 = 0xffff_ffff_ffff_ffff;
-
 // What a write to a register does. No write to INTISR_CHIP0, INTISR_CHIP1 or INTIRR is accepted.
+#[tactic(auto, unfolding(crate::specs::Registers::written_of))]
 pub fn write(register: Register, value: u64) -> Written
     ensures { result ≡ written_of register value }
 {
     match register {
-        Register::IntMask => plain(Cell::Mask, ALL, value),
-        Register::MsiEn => plain(Cell::Msi, ALL, value),
-        Register::IntEdge => changed(Change::Edge {
-            mask: ALL,
+        Register::IntMask => Written::Plain(Effect::new(Cell::Mask, u64::MAX, value)),
+        Register::MsiEn => Written::Plain(Effect::new(Cell::Msi, u64::MAX, value)),
+        Register::IntEdge => Written::Changed(Change::Edge {
+            mask: u64::MAX,
             bits: value,
         }),
-        Register::SoftInt => changed(Change::Soft {
-            mask: ALL,
+        Register::SoftInt => Written::Changed(Change::Soft {
+            mask: u64::MAX,
             bits: value,
         }),
-        Register::AutoCtrl0 => changed(Change::Auto {
-            mask: ALL,
+        Register::AutoCtrl0 => Written::Changed(Change::Auto {
+            mask: u64::MAX,
             bits: value,
         }),
-        Register::AutoCtrl1 => changed(Change::Nothing),
-        Register::IntClr => changed(Change::Latch {
+        Register::IntClr => Written::Changed(Change::Latch {
             mask: value,
             bits: 0,
         }),
-        Register::IntIsrChip0 => changed(Change::Nothing),
-        Register::IntIsrChip1 => changed(Change::Nothing),
-        Register::IntIrr => changed(Change::Nothing),
-        Register::RouteEntry(source) => plain(Cell::Route(source), 3, value),
+        Register::RouteEntry(source) => Written::Plain(Effect::new(Cell::Route(source), 3, value)),
+        Register::AutoCtrl1 | Register::IntIsrChip0 | Register::IntIsrChip1 | Register::IntIrr =>
+            Written::Changed(Change::Nothing),
     }
 }

@@ -1,28 +1,27 @@
 -- The place of a refusal lies in the text, or at its end; so a replay from a place on can count it in the whole text.
 use Prim.Native.Nat.{ℕ, zero, suc, ◌+◌, ◌≤◌}
 use mathlib.Core.Path.{◌≡◌, refl, sym, subst}
-use mathlib.Core.Bool.{Bool, true, false, cond, ◌&&◌}
+use mathlib.Core.Bool.{Bool, true, false, cond}
 use mathlib.Core.List.{List, [], ◌∷◌}
 use native.Mathlib.Omega.{arith}
 use borrow.Author.Tests.{eqb-true, eqb-false}
-use lib.Dec.{eqb, ltb}
+use lib.Dec.{eqb}
 use lib.ListN.{length, drop, get_or}
 use Prim.Native.Char.{code}
 use Rattle.text.specs.Tokens.{same_of}
-use Rattle.numbers.specs.declared.Number.{Number}
-use Rattle.numbers.specs.declared.Number.TheVariants.{Value, TooLarge, Malformed}
+use Rattle.std.specs.Prelude.{Option, Some, None, Result, Ok, Err}
+use Rattle.numbers.specs.declared.NumberError.{NumberError}
 use Rattle.numbers.specs.Numbers.{number_in}
 use Rattle.capture_tokens.specs.Tokens.{Token, tokens_from, token_of, one_of, is_end}
 use Rattle.capture_tokens.proofs.Tokens.{token_none, token_some, past_the_end}
 use Rattle.capture_header.specs.declared.Head.{Head}
 use Rattle.capture_header.specs.Header.{head_start, head_next, bad_field, begins}
-use Rattle.capture_ids.specs.declared.Look.{Look}
 use Rattle.capture_ids.specs.Ids.{Header, header_from, header_of}
 use Rattle.capture_commands.specs.declared.Mode.{Mode}
 use Rattle.capture_commands.specs.declared.Mode.TheVariants.{Command, Comment, Dump, Id, DumpId, Bad, Late}
 use Rattle.capture_commands.specs.declared.State.{State}
 use Rattle.capture_commands.specs.declared.Reading.{Reading}
-use Rattle.capture_commands.specs.Commands.{scalar, allowed, comment_word, dumps, id_in, changed, value_of, marks_at, timed_of, command_of, comment_of, dumped_of, read_in, refused, read_of, state_start, state_from}
+use Rattle.capture_commands.specs.Commands.{scalar, allowed, comment_word, dumps, id_in, changed, value_of, earlier, marks_at, timed_of, command_of, comment_of, dumped_of, read_in, refused, read_of, state_start, state_from}
 use Rattle.capture.specs.Replay.{says, headed, end_of, text_place}
 
 -- What holds of both holds of the one that is chosen.
@@ -66,10 +65,14 @@ module _ (n : ℕ) where
   abbrev Kept : Reading → Type 0
   Kept r = r.state.place ≤ n
 
-  module _ (l : Look) (b : State) (p : b.place ≤ n) where
+  module _ (l : Option ℕ) (b : State) (p : b.place ≤ n) where
     changed_within : (m : Mode) (c : ℕ) → Kept (changed l b m c)
     unfolding changed
-    changed_within m c = chosen Kept (allowed l c) p p
+    changed_within m c = by l
+      where
+        by : (l : Option ℕ) → Kept (changed l b m c)
+        by None = p
+        by (Some inputs) = chosen Kept (allowed inputs c) p p
 
     value_within : (m i : Mode) (t : List ℕ) → Kept (value_of l b m i t)
     unfolding value_of
@@ -77,13 +80,12 @@ module _ (n : ℕ) where
 
     marks_within : (k : ℕ) → Kept (marks_at b k)
     unfolding marks_at
-    marks_within k = chosen Kept (b.marked && ltb k b.time) p p
+    marks_within k = chosen Kept (earlier k b.time) p p
 
-    timed_within : (k : Number) → Kept (timed_of b k)
+    timed_within : (k : Result ℕ NumberError) → Kept (timed_of b k)
     unfolding timed_of
-    timed_within (Value k) = marks_within k
-    timed_within TooLarge = p
-    timed_within Malformed = p
+    timed_within (Ok k) = marks_within k
+    timed_within (Err e) = p
 
     command_within : (t : List ℕ) → Kept (command_of l b t)
     unfolding command_of
@@ -101,11 +103,11 @@ module _ (n : ℕ) where
     read_in_within Bad t = p
     read_in_within Late t = p
 
-  read_within : (l : Look) (b : State) (t : Token) → b.place ≤ n → t.at ≤ n → Kept (read_of l b t)
+  read_within : (l : Option ℕ) (b : State) (t : Token) → b.place ≤ n → t.at ≤ n → Kept (read_of l b t)
   unfolding read_of
-  read_within l b t p q = chosen Kept (refused b.mode) p (read_in_within l (record { mode = b.mode; marked = b.marked; time = b.time; place = t.at }) q b.mode t.text)
+  read_within l b t p q = chosen Kept (refused b.mode) p (read_in_within l (record { mode = b.mode; time = b.time; place = t.at }) q b.mode t.text)
 
-  state_within : (look : List ℕ → Look) (b : State) (ts : List Token) → b.place ≤ n → Within n ts → (state_from look b ts).place ≤ n
+  state_within : (look : List ℕ → Option ℕ) (b : State) (ts : List Token) → b.place ≤ n → Within n ts → (state_from look b ts).place ≤ n
   unfolding state_from
   state_within look b [] p w = p
   state_within look b (t ∷ ts) p w =

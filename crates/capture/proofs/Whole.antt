@@ -12,12 +12,16 @@ use lib.Seq.{take_all, drop-drop}
 use Rattle.text.specs.Buffers.{fits, put_of}
 use Rattle.device.specs.declared.Device.{Device}
 use Rattle.capture_tokens.specs.Tokens.{Token}
+use denote.Enum.Bare.{sameb}
+use Rattle.capture_header.specs.contracts.Field.{the_type}
+use Rattle.capture_header.specs.declared.Field.{Field}
+use Rattle.capture_header.specs.declared.Field.TheVariants as field
 use Rattle.capture_header.specs.Header.{at_command, bad_field}
 use Rattle.capture_ids.specs.declared.Headed.{Headed}
-use Rattle.capture_ids.specs.declared.Look.{Look}
+use Rattle.std.specs.Prelude.{Option, Result, Err, ⊤}
 use Rattle.capture_ids.specs.Ids.{header_of, headed_of}
-use Rattle.capture_commands.specs.declared.Outcome.{Outcome}
-use Rattle.capture_commands.specs.declared.Outcome.TheVariants.{BadText}
+use Rattle.capture_commands.specs.declared.Fault.{Fault}
+use Rattle.capture_commands.specs.declared.Fault.TheVariants.{BadText}
 use Rattle.capture_commands.specs.Commands.{judged, with_room, accepted}
 use Rattle.capture_dump.specs.Dump.{opening}
 use Rattle.capture_dump.proofs.Pieces.{put_fits}
@@ -26,12 +30,34 @@ use Rattle.capture.specs.Replay.{says, headed, end_of, text_outcome, text_place,
 use Rattle.capture.specs.Private.{Rests, rest_outcome, rest_place}
 use Rattle.capture.proofs.Resting.{answer, accepted_room}
 
+-- ---- a field as the code tests it
+
+pub same_command : (f : Field) → sameb the_type f field.Command ≡ at_command f
+unfolding at_command
+same_command field.Command = refl
+same_command field.Text = refl
+same_command field.Kind = refl
+same_command field.Size = refl
+same_command field.Id = refl
+same_command field.Name = refl
+same_command field.Bad = refl
+
+pub same_bad : (f : Field) → sameb the_type f field.Bad ≡ bad_field f
+unfolding bad_field
+same_bad field.Command = refl
+same_bad field.Text = refl
+same_bad field.Kind = refl
+same_bad field.Size = refl
+same_bad field.Id = refl
+same_bad field.Name = refl
+same_bad field.Bad = refl
+
 -- ---- the answer
 
 abbrev shift : ℕ → Replayed → Replayed
 shift used r = answer r.outcome r.place (used + r.used) r.device
 
-shifted : (o : Outcome) (place used n : ℕ) (last d : Device) → shift used (answer_of o place 0 n last d) ≡ answer_of o place used n last d
+shifted : (o : Result ⊤ Fault) (place used n : ℕ) (last d : Device) → shift used (answer_of o place 0 n last d) ≡ answer_of o place used n last d
 unfolding answer_of
 shifted o place used n last d = by (accepted o)
   where
@@ -87,21 +113,21 @@ module _ (d : Device) (s out : List ℕ) (used : ℕ) (found : Headed) (h : foun
 
   -- The header is not whole.
   pub replay_bad : at_command found.head.field ≡ false → (place : ℕ) → place ≡ cond (bad_field found.head.field) found.head.place (length s)
-      → (answer BadText place used d ≡ replay_of d s out used) × (out ≡ buffer_of d s out used)
+      → (answer (Err BadText) place used d ≡ replay_of d s out used) × (out ≡ buffer_of d s out used)
   unfolding text_outcome text_place replay_of buffer_of with_room accepted answer_of
   replay_bad b place p =
       let t : headed s ≡ false = whole ∙ b in
       let q : place ≡ cond (bad_field (header_of s).head.field) (header_of s).head.place (length s) = p ∙ ap (λ (k : Headed). cond (bad_field k.head.field) k.head.place (length s)) h in
-      (rw t (ap (λ (n : ℕ). answer BadText n used d) q), rw t)
+      (rw t (ap (λ (n : ℕ). answer (Err BadText) n used d) q), rw t)
 
-  module _ (b : at_command found.head.field ≡ true) (start : ℕ) (e : start ≡ min used (length out)) (look : List ℕ → Look) (l : (x : List ℕ) → look x ≡ says s x)
+  module _ (b : at_command found.head.field ≡ true) (start : ℕ) (e : start ≡ min used (length out)) (look : List ℕ → Option ℕ) (l : (x : List ℕ) → look x ≡ says s x)
       (ts : List Token) (g : ts ≡ (header_of s).rest) (r : Replayed) (after : List ℕ) (x : Rests look ts (length s) (take (length out - start) (drop start out)) d r after) where
-    abbrev o : Outcome
+    abbrev o : Result ⊤ Fault
     o = outcome_of s out used d
 
     behind : Rests (says s) (header_of s).rest (length s) (drop start out) d r after
     behind =
-        subst (λ (q : List ℕ → Look). Rests q (header_of s).rest (length s) (drop start out) d r after) (λ i y. l y i)
+        subst (λ (q : List ℕ → Option ℕ). Rests q (header_of s).rest (length s) (drop start out) d r after) (λ i y. l y i)
         (subst (λ (us : List Token). Rests look us (length s) (drop start out) d r after) g
         (subst (λ (k : List ℕ). Rests look ts (length s) k d r after) (take_all (length out - start) (drop start out) (rw length-drop (omega arith))) x))
 
@@ -109,7 +135,7 @@ module _ (d : Device) (s out : List ℕ) (used : ℕ) (found : Headed) (h : foun
     unfolding text_outcome dump_of
     same_outcome =
         ap₂ with_room
-        (sym (ap (λ (t : Bool). cond t (judged (end_of s).mode) BadText) (whole ∙ b)))
+        (sym (ap (λ (t : Bool). cond t (judged (end_of s).mode) (Err BadText)) (whole ∙ b)))
         (same_room out used start e (dump_of s d) (dump_positive s d))
 
     same_place : rest_place (says s) (header_of s).rest (length s) ≡ text_place s
@@ -118,11 +144,11 @@ module _ (d : Device) (s out : List ℕ) (used : ℕ) (found : Headed) (h : foun
 
     answered : r ≡ answer_of o (text_place s) 0 (length (dump_of s d)) (device_of s d) d
     unfolding dump_of device_of
-    answered = behind.answer ∙ ap₂ (λ (k : Outcome) (n : ℕ). answer_of k n 0 (length (dump_of s d)) (device_of s d) d) same_outcome same_place
+    answered = behind.answer ∙ ap₂ (λ (k : Result ⊤ Fault) (n : ℕ). answer_of k n 0 (length (dump_of s d)) (device_of s d) d) same_outcome same_place
 
     buffered : after ≡ cond (accepted o) (put_of (drop start out) 0 (dump_of s d)) (drop start out)
     unfolding dump_of
-    buffered = behind.buffer ∙ ap (λ (k : Outcome). cond (accepted k) (put_of (drop start out) 0 (dump_of s d)) (drop start out)) same_outcome
+    buffered = behind.buffer ∙ ap (λ (k : Result ⊤ Fault). cond (accepted k) (put_of (drop start out) 0 (dump_of s d)) (drop start out)) same_outcome
 
     room : accepted o ≡ true → fits out used (dump_of s d) ≡ true
     room y = accepted_room (text_outcome s) (fits out used (dump_of s d)) y

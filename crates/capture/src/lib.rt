@@ -1,23 +1,25 @@
 // The replay of a capture: input steps in file order, and a dump of the four lines behind the used bytes of a buffer.
 #![tactic(auto)]
 
-ghost use Rattle.std.specs.Prelude.{◌≡◌, cond, List, [], ℕ, length};
+ghost use Rattle.std.specs.Prelude.{◌≡◌, List, [], ℕ, length, Option};
 ghost use Rattle.capture_tokens.specs.Tokens.{tokens_from};
-ghost use Rattle.capture_ids.specs.declared.Look.{Look};
 ghost use Rattle.capture_ids.specs.Table.{look_in};
 ghost use Rattle.capture_commands.specs.Commands.{state_start};
-ghost use Rattle.capture_run.specs.Run.{lines_of};
 ghost use Rattle.capture_times.specs.Times.{times_start};
 ghost use Rattle.capture.specs.Replay.{replay_of, buffer_of, replay_from, buffer_from};
 ghost use Rattle.capture.specs.Private.{Walks, Wholes, Rests};
 
-use capture_commands::{Outcome, State};
-use capture_dump::Pen;
-use capture_times::Times;
+use capture_commands::{Fault, Outcome, State, id_in, judged, read, refused, with_room};
+use capture_dump::{Time, put_end, put_opening};
+use capture_header::Field;
+use capture_ids::{Ids, SLOTS};
+use capture_run::{acted, begin, lines};
+use capture_times::{ended, times_after};
 use capture_tokens::token;
 use device::{Device, Stepped};
 
 // The outcome, the place of the token that shows a refusal, the used length and the device.
+// place and used stand beside the outcome: `replay_of` fixes them in both cases, the text's end and the used length as it was.
 #[derive(Clone, Copy)]
 pub struct Replayed {
     pub outcome: Outcome,
@@ -26,125 +28,101 @@ pub struct Replayed {
     pub device: Device,
 }
 
-// Where a walk has come to.
+// Where a walk has come to; the pen is the place behind what was dumped, None once something did not fit.
 #[derive(Clone, Copy)]
 pub struct Walked {
     pub state: State,
     pub now: Stepped,
-    pub pen: Pen,
+    pub pen: Option<usize>,
 }
 
 // The end of the file ends the last time.
-fn finish(out: &mut [u8], p: Pen, b: State, t: Times, last: Stepped, write: bool) -> Walked
-    ensures { (look : List ℕ → Look) → Walks look [] b t last out.old write p result out.new }
+fn finish(
+    out: &mut [u8],
+    pen: Option<usize>,
+    state: State,
+    time: Option<Time>,
+    now: Stepped,
+    write: bool,
+) -> Walked
+    ensures { (look : List ℕ → Option ℕ) → Walks look [] state time now out.old write pen result out.new }
 {
-    let time = t.time;
-    let lines = capture_run::lines(last);
-    let q = capture_dump::put_end(out, p, t.marked, time, lines, write);
     Walked {
-        state: b,
-        now: last,
-        pen: q,
+        state,
+        now,
+        pen: put_end(out, pen, time, lines(now), write),
     }
 }
 
 // The tokens from a place on.
+// A loop and no iterator of tokens: the state says what the next token is looked up as. out, pen and write go side by side as put_end takes them.
 fn walk(
-    s: &[u8],
+    ids: Ids<'_>,
     from: usize,
-    inputs: &[u64],
-    known: &[u64],
     first: Stepped,
     out: &mut [u8],
-    pen: Pen,
+    pen: Option<usize>,
     write: bool,
 ) -> Walked
-    ensures { Walks (look_in s.now inputs.now known.now) (tokens_from s.now from) state_start (times_start (lines_of first)) first out.old write pen result out.new }
+    ensures { Walks (look_in ids.entry.text.now ids.entry.table.now) (tokens_from ids.entry.text.now from) state_start times_start first out.old write pen result out.new }
 {
-    let mut b = capture_commands::start();
-    let mut last = first;
-    let mut t = capture_times::start(capture_run::lines(first));
-    let mut p = pen;
+    let mut state = capture_commands::start();
+    let mut now = first;
+    let mut time = None;
+    let mut pen = pen;
     let mut at = from;
-    while at < s.len() {
-        let span = token(s, at);
-        let start = span.start;
-        let end = span.end;
-        if start == end {
-            return finish(out, p, b, t, last, write);
+    loop {
+        let span = token(ids.text, at);
+        if span.start == span.end {
+            return finish(out, pen, state, time, now, write);
         }
-        let m = b.mode;
-        let id = capture_commands::id_in(m, &s[start..end]);
-        let look = capture_ids::look_up(s, inputs, known, id);
-        let r = capture_commands::read(look, b, &s[start..end], start);
-        let e = r.event;
-        let lines = capture_run::lines(last);
-        let time = t.time;
-        p = capture_dump::put_end(out, p, capture_times::ends(t, e), time, lines, write);
-        t = capture_times::times_after(t, lines, e);
-        last = capture_run::acted(e, last);
-        b = r.state;
-        at = end;
+        let t = &ids.text[span.start..span.end];
+        let known = ids.look_up(id_in(state.mode, t));
+        let reading = read(known, state, t, span.start);
+        let before = lines(now);
+        pen = put_end(out, pen, ended(time, reading.event), before, write);
+        time = times_after(time, before, reading.event);
+        now = acted(reading.event, now);
+        state = reading.state;
+        at = span.end;
     }
-    finish(out, p, b, t, last, write)
 }
 
 // The whole dump, behind no byte.
-fn walk_all(
-    s: &[u8],
-    from: usize,
-    inputs: &[u64],
-    known: &[u64],
-    first: Stepped,
-    out: &mut [u8],
-    write: bool,
-) -> Walked
-    ensures { Wholes (look_in s.now inputs.now known.now) (tokens_from s.now from) first out.old write result out.new }
+fn walk_all(ids: Ids<'_>, from: usize, first: Stepped, out: &mut [u8], write: bool) -> Walked
+    ensures { Wholes (look_in ids.entry.text.now ids.entry.table.now) (tokens_from ids.entry.text.now from) first out.old write result out.new }
 {
-    let p = capture_dump::put_opening(out, Pen { at: 0, full: false }, write);
-    walk(s, from, inputs, known, first, out, p, write)
-}
-
-fn choose(first: bool, a: usize, b: usize) -> usize
-    ensures { result ≡ cond first a b }
-{
-    if first { a } else { b }
+    let pen = put_opening(out, Some(0), write);
+    walk(ids, from, first, out, pen, write)
 }
 
 // A first walk judges and measures, and a second one writes.
-fn replay_rest(
-    d: Device,
-    s: &[u8],
-    from: usize,
-    inputs: &[u64],
-    known: &[u64],
-    out: &mut [u8],
-) -> Replayed
-    ensures { Rests (look_in s.now inputs.now known.now) (tokens_from s.now from) (length s.now) out.old d result out.new }
+fn replay_rest(d: Device, ids: Ids<'_>, from: usize, out: &mut [u8]) -> Replayed
+    ensures { Rests (look_in ids.entry.text.now ids.entry.table.now) (tokens_from ids.entry.text.now from) (length ids.entry.text.now) out.old d result out.new }
 {
-    let first = capture_run::begin(d);
-    let tried = walk_all(s, from, inputs, known, first, out, false);
-    let b = tried.state;
-    let p = tried.pen;
-    let mode = b.mode;
-    let outcome = capture_commands::with_room(capture_commands::judged(mode), !p.full);
-    let place = choose(capture_commands::refused(mode), b.place, s.len());
-    if capture_commands::accepted(outcome) {
-        walk_all(s, from, inputs, known, first, out, true);
-        let last = tried.now;
-        let device = last.device;
+    let first = begin(d);
+    let tried = walk_all(ids, from, first, out, false);
+    let mode = tried.state.mode;
+    let outcome = with_room(judged(mode), tried.pen.is_some());
+    let place = if refused(mode) {
+        tried.state.place
+    } else {
+        ids.text.len()
+    };
+    if outcome.is_err() {
         return Replayed {
-            outcome: outcome,
-            place: place,
-            used: p.at,
-            device: device,
+            outcome,
+            place,
+            used: 0,
+            device: d,
         };
     }
+    walk_all(ids, from, first, out, true);
     Replayed {
-        outcome: outcome,
-        place: place,
-        used: 0,
-        device: d,
+        outcome,
+        place,
+        used: tried.pen.unwrap_or(0),
+        device: tried.now.device,
     }
 }
 
@@ -153,44 +131,43 @@ fn replay(d: Device, s: &[u8], out: &mut [u8], used: usize) -> Replayed
     ensures value { result ≡ replay_of d s.now out.old used }
     ensures out_after { out.new ≡ buffer_of d s.now out.old used }
 {
-    let mut inputs = [0u64; 16513];
-    let mut known = [0u64; 16513];
-    let headed = capture_ids::index(s, &mut inputs, &mut known);
+    let mut table = [None; SLOTS];
+    let headed = capture_ids::index(s, &mut table);
     let head = headed.head;
-    let field = head.field;
-    if capture_header::at_command(field) {
-        let start = text::least(used, out.len());
-        let r = replay_rest(d, s, headed.at, &inputs, &known, &mut out[start..]);
-        let device = r.device;
-        let outcome = r.outcome;
+    if head.field == Field::Command {
+        let ids = Ids {
+            text: s,
+            table: &table,
+        };
+        let start = used.min(out.len());
+        let rest = replay_rest(d, ids, headed.at, &mut out[start..]);
         return Replayed {
-            outcome: outcome,
-            place: r.place,
-            used: used + r.used,
-            device: device,
+            used: used + rest.used,
+            ..rest
         };
     }
     Replayed {
-        outcome: Outcome::BadText,
-        place: choose(capture_header::bad_field(field), head.place, s.len()),
-        used: used,
+        outcome: Err(Fault::BadText),
+        place: if head.field == Field::Bad {
+            head.place
+        } else {
+            s.len()
+        },
+        used,
         device: d,
     }
 }
 
 // Replays the capture that stands in a text from a place on, on a device, and writes the dump behind the used bytes of a buffer.
+// The buffer with its used length and the text with a place: docs/PROOFS.md names replay_from, replay and replay_text.
 pub fn replay_from(d: Device, s: &[u8], at: usize, out: &mut [u8], used: usize) -> Replayed
     ensures value { result ≡ replay_from d s.now at out.old used }
     ensures out_after { out.new ≡ buffer_from d s.now at out.old used }
 {
-    let start = text::least(at, s.len());
-    let r = replay(d, &s[start..], out, used);
-    let device = r.device;
-    let outcome = r.outcome;
+    let start = at.min(s.len());
+    let rest = replay(d, &s[start..], out, used);
     Replayed {
-        outcome: outcome,
-        place: at + r.place,
-        used: r.used,
-        device: device,
+        place: at + rest.place,
+        ..rest
     }
 }

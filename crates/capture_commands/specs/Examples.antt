@@ -1,22 +1,18 @@
 -- The definitions compute: what the tokens of some texts call for, where `!` is the id of input 0 and `%` that of no input.
-use Rattle.std.specs.Prelude.{ℕ, ◌≡◌, refl, Bool, true, false, cond, List, [], ◌∷◌, map}
+use Rattle.std.specs.Prelude.{ℕ, ◌≡◌, refl, true, false, cond, List, [], ◌∷◌, map, Option, Some, None}
 use Prim.Native.String.{String}
 use Rattle.text.specs.Ascii.{ascii}
 use Rattle.text.specs.Tokens.{same_of}
 use Rattle.numbers.specs.Numbers.{digit_of, formed, value_from, bounded, number_in}
 use Rattle.capture_tokens.specs.Tokens.{Token, blank, attach, words, placed, tokens_from, index_of}
 use Rattle.capture_forms.specs.Forms.{class_of, rules, pick, step_of, next_of, scan_of}
-use Rattle.capture_ids.specs.declared.Look.{Look}
 use Rattle.capture_commands.specs.declared.State.{State}
 use Rattle.capture_commands.specs.declared.Event.{Event}
 use Rattle.capture_commands.specs.declared.Event.TheVariants.{Nothing, Mark, Change}
-use Rattle.capture_commands.specs.Commands.{outcome_number, scalar, vector, real, id_in, allowed, changed, value_of, marks_at, timed_of, command_of, comment_of, dumped_of, read_in, refused, read_of, state_start, state_from, events_from, judged}
+use Rattle.capture_commands.specs.Commands.{fault_number, outcome_number, scalar, vector, real, id_in, allowed, changed, value_of, earlier, marks_at, timed_of, command_of, comment_of, dumped_of, read_in, refused, read_of, state_start, state_from, events_from, judged}
 
-abbrev says : Bool → ℕ → Look
-says known inputs = record { known = known; inputs = inputs }
-
-unfoldable pub look : List ℕ → Look
-look x = cond (same_of x (ascii "!")) (says true 1) (says (same_of x (ascii "%")) 0)
+unfoldable pub look : List ℕ → Option ℕ
+look x = cond (same_of x (ascii "!")) (Some 1) (cond (same_of x (ascii "%")) (Some 0) None)
 
 -- A text, the number of the refusal that its end means, the place, and what each token calls for.
 pub record Example : Type 0 where
@@ -62,5 +58,5 @@ examples =
     ∷ []
 
 computed : map run examples ≡ examples
-unfolding same_of digit_of formed value_from bounded number_in blank attach words placed tokens_from index_of class_of rules pick step_of next_of scan_of outcome_number scalar vector real id_in allowed changed value_of marks_at timed_of command_of comment_of dumped_of read_in refused read_of state_from events_from judged look examples
+unfolding digit_of formed value_from bounded number_in blank attach words placed tokens_from index_of class_of rules pick step_of next_of scan_of fault_number outcome_number scalar vector real id_in allowed changed value_of earlier marks_at timed_of command_of comment_of dumped_of read_in refused read_of state_from events_from judged look examples
 computed = refl

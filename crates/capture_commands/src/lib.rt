@@ -1,28 +1,30 @@
 // The simulation commands of a capture: what each token calls for, a time mark or a change of inputs, and the refusals of the text.
 #![tactic(auto)]
 
-ghost use Rattle.std.specs.Prelude.{◌≡◌, []};
+ghost use Rattle.std.specs.Prelude.{◌≡◌};
 ghost use Rattle.capture_tokens.specs.Tokens.{one_of, token as token_at};
 ghost use Rattle.capture_commands.specs.Commands as commands;
 
+use access::{BAD_TEXT, EARLIER_TIME, NO_ROOM};
 use capture_forms::scan;
-use capture_ids::Look;
 use capture_names::{behind, first};
 use capture_tokens::{index_of, is_end};
-use numbers::Number;
-use text::same;
+use numbers::NumberError;
 
-// The outcome of a replay.
-#[derive(Clone, Copy)]
-pub enum Outcome {
-    Accepted,
+// Why a replay is refused, in the order of the numbers: 10 to 12.
+#[derive(Clone, Copy, PartialEq, Eq)]
+pub enum Fault {
     BadText,
     EarlierTime,
     NoRoom,
 }
 
+// The outcome of a replay.
+pub type Outcome = Result<(), Fault>;
+
 // What the next token is, or that the text is refused.
-#[derive(Clone, Copy)]
+// Bad and Late are states and no Err: a refused text is read to its end, and the state stays (docs/DECISIONS.md, B35).
+#[derive(Clone, Copy, PartialEq, Eq)]
 pub enum Mode {
     Command,
     Comment,
@@ -37,12 +39,12 @@ pub enum Mode {
 #[derive(Clone, Copy)]
 pub struct State {
     pub mode: Mode,
-    pub marked: bool,
-    pub time: u64,
+    pub time: Option<u64>,
     pub place: usize,
 }
 
 // What a token calls for: nothing, the end of a time or its beginning, inputs that are taken to a level.
+// Nothing is a case and no Option: the run, the times and the dump are folds over every event.
 #[derive(Clone, Copy)]
 pub enum Event {
     Nothing,
@@ -56,246 +58,232 @@ pub struct Reading {
     pub event: Event,
 }
 
-impl Outcome {
-    // The refusal's number; 0 where the capture was accepted.
-    pub fn number(self) -> u64
-        ensures { result ≡ commands.outcome_number self }
-    {
-        match self {
-            Outcome::Accepted => 0,
-            Outcome::BadText => access::BAD_TEXT,
-            Outcome::EarlierTime => access::EARLIER_TIME,
-            Outcome::NoRoom => access::NO_ROOM,
+// The number of a refusal.
+impl From<Fault> for u64 {
+    ghost use Rattle.std.specs.Prelude.{◌≡◌};
+    ghost use Rattle.capture_commands.specs.Commands.{fault_number};
+
+    ghost from_gives = { λ fault number. number ≡ fault_number fault };
+
+    #[tactic(auto, unfolding(crate::specs::Commands::fault_number))]
+    fn from(fault: Fault) -> u64 {
+        match fault {
+            Fault::BadText => BAD_TEXT,
+            Fault::EarlierTime => EARLIER_TIME,
+            Fault::NoRoom => NO_ROOM,
         }
     }
 }
 
+// The refusal's number; 0 where the capture was accepted.
+// 0 and no Option, as a step's number (`outcome_number`).
+#[tactic(auto, unfolding(crate::specs::Commands::outcome_number))]
+pub fn number(outcome: Outcome) -> u64
+    ensures { result ≡ commands.outcome_number outcome }
+{
+    match outcome {
+        Ok(()) => 0,
+        Err(fault) => u64::from(fault),
+    }
+}
+
+#[tactic(auto, unfolding(crate::specs::Commands::scalar))]
 fn scalar(t: &[u8]) -> bool
     ensures { result ≡ commands.scalar t.now }
 {
-    match first(t) {
-        b'0' => true,
-        b'1' => true,
-        b'x' => true,
-        b'X' => true,
-        b'z' => true,
-        b'Z' => true,
-        _ => false,
-    }
+    matches!(first(t), b'0' | b'1' | b'x' | b'X' | b'z' | b'Z')
 }
 
+#[tactic(auto, unfolding(crate::specs::Commands::vector))]
 fn vector(t: &[u8]) -> bool
     ensures { result ≡ commands.vector t.now }
 {
-    let c = first(t);
-    if (c == b'b') | (c == b'B') {
-        return capture_forms::vector_form(scan(t, 1, capture_forms::VECTOR));
-    }
-    false
+    matches!(first(t), b'b' | b'B') && capture_forms::vector_form(scan(t, 1, capture_forms::VECTOR))
 }
 
+#[tactic(auto, unfolding(crate::specs::Commands::real))]
 fn real(t: &[u8]) -> bool
     ensures { result ≡ commands.real t.now }
 {
-    let c = first(t);
-    if (c == b'r') | (c == b'R') {
-        return capture_forms::real_form(scan(t, 1, capture_forms::REAL));
-    }
-    false
-}
-
-fn none(t: &[u8]) -> &[u8]
-    ensures { result.now ≡ [] }
-{
-    &t[..0]
+    matches!(first(t), b'r' | b'R') && capture_forms::real_form(scan(t, 1, capture_forms::REAL))
 }
 
 fn scalar_id(t: &[u8]) -> &[u8]
     ensures { result.now ≡ commands.scalar_id t.now }
 {
-    if scalar(t) {
-        return behind(t);
-    }
-    none(t)
+    if scalar(t) { behind(t) } else { b"" }
 }
 
 // The id that a token carries; an empty one where it carries none.
+#[tactic(auto, unfolding(crate::specs::Commands::id_in))]
 pub fn id_in(m: Mode, t: &[u8]) -> &[u8]
     ensures { result.now ≡ commands.id_in m t.now }
 {
     match m {
-        Mode::Command => scalar_id(t),
-        Mode::Comment => none(t),
-        Mode::Dump => scalar_id(t),
-        Mode::Id => t,
-        Mode::DumpId => t,
-        Mode::Bad => none(t),
-        Mode::Late => none(t),
+        Mode::Command | Mode::Dump => scalar_id(t),
+        Mode::Id | Mode::DumpId => t,
+        Mode::Comment | Mode::Bad | Mode::Late => b"",
     }
 }
 
-fn goes(b: State, m: Mode) -> Reading
-    ensures { result ≡ commands.goes b m }
+fn goes(b: State, mode: Mode) -> Reading
+    ensures { result ≡ commands.goes b mode }
 {
     Reading {
-        state: State {
-            mode: m,
-            marked: b.marked,
-            time: b.time,
-            place: b.place,
-        },
+        state: State { mode, ..b },
         event: Event::Nothing,
     }
 }
 
-fn allowed(l: Look, c: u8) -> bool
-    ensures { result ≡ commands.allowed l c }
+#[tactic(auto, unfolding(crate::specs::Commands::allowed))]
+fn allowed(inputs: u64, c: u8) -> bool
+    ensures { result ≡ commands.allowed inputs c }
 {
-    l.known & ((l.inputs == 0) | ((c == b'0') | (c == b'1')))
+    inputs == 0 || matches!(c, b'0' | b'1')
 }
 
-fn changed(l: Look, b: State, m: Mode, c: u8) -> Reading
-    ensures { result ≡ commands.changed l b m c }
+#[tactic(auto, unfolding(crate::specs::Commands::changed))]
+fn changed(known: Option<u64>, b: State, mode: Mode, c: u8) -> Reading
+    ensures { result ≡ commands.changed known b mode c }
 {
-    if allowed(l, c) {
-        return Reading {
-            state: State {
-                mode: m,
-                marked: b.marked,
-                time: b.time,
-                place: b.place,
-            },
+    match known {
+        Some(inputs) if allowed(inputs, c) => Reading {
+            state: State { mode, ..b },
             event: Event::Change {
-                inputs: l.inputs,
+                inputs,
                 level: c == b'1',
             },
-        };
+        },
+        _ => goes(b, Mode::Bad),
     }
-    goes(b, Mode::Bad)
 }
 
-fn value(l: Look, b: State, m: Mode, i: Mode, t: &[u8]) -> Reading
-    ensures { result ≡ commands.value_of l b m i t.now }
+#[tactic(auto, unfolding(crate::specs::Commands::value_of))]
+fn value(known: Option<u64>, b: State, m: Mode, i: Mode, t: &[u8]) -> Reading
+    ensures { result ≡ commands.value_of known b m i t.now }
 {
     if scalar(t) {
-        return changed(l, b, m, first(t));
+        changed(known, b, m, first(t))
+    } else if vector(t) || real(t) {
+        goes(b, i)
+    } else {
+        goes(b, Mode::Bad)
     }
-    if vector(t) | real(t) {
-        return goes(b, i);
-    }
-    goes(b, Mode::Bad)
 }
 
+// Whether a number is below the last mark, if there was one.
+#[tactic(auto, unfolding(crate::specs::Commands::earlier))]
+fn earlier(n: u64, last: Option<u64>) -> bool
+    ensures { result ≡ commands.earlier n last }
+{
+    last.is_some_and(|time| n < time)
+}
+
+#[tactic(auto, unfolding(crate::specs::Commands::marks_at))]
 fn marks_at(b: State, n: u64) -> Reading
     ensures { result ≡ commands.marks_at b n }
 {
-    if b.marked & (n < b.time) {
+    if earlier(n, b.time) {
         return goes(b, Mode::Late);
     }
     Reading {
         state: State {
             mode: Mode::Command,
-            marked: true,
-            time: n,
-            place: b.place,
+            time: Some(n),
+            ..b
         },
         event: Event::Mark(n),
     }
 }
 
-fn timed(b: State, n: Number) -> Reading
+#[tactic(auto, unfolding(crate::specs::Commands::timed_of))]
+fn timed(b: State, n: Result<u64, NumberError>) -> Reading
     ensures { result ≡ commands.timed_of b n }
 {
     match n {
-        Number::Value(n) => marks_at(b, n),
-        Number::TooLarge => goes(b, Mode::Bad),
-        Number::Malformed => goes(b, Mode::Bad),
+        Ok(n) => marks_at(b, n),
+        Err(_) => goes(b, Mode::Bad),
     }
 }
 
 fn dump_word(t: &[u8]) -> bool
     ensures { result ≡ one_of commands.dumps t.now }
 {
-    index_of(b"$dumpall $dumpoff $dumpon $dumpvars", t) < 4
+    index_of(b"$dumpall $dumpoff $dumpon $dumpvars", t).is_some()
 }
 
-fn command(l: Look, b: State, t: &[u8]) -> Reading
-    ensures { result ≡ commands.command_of l b t.now }
+#[tactic(auto, unfolding(crate::specs::Commands::command_of))]
+fn command(known: Option<u64>, b: State, t: &[u8]) -> Reading
+    ensures { result ≡ commands.command_of known b t.now }
 {
     if first(t) == b'#' {
-        return timed(b, numbers::parse_decimal(t, 1));
+        timed(b, numbers::parse_decimal(t, 1))
+    } else if t == b"$comment".as_slice() {
+        goes(b, Mode::Comment)
+    } else if dump_word(t) {
+        goes(b, Mode::Dump)
+    } else {
+        value(known, b, Mode::Command, Mode::Id, t)
     }
-    if same(t, b"$comment") {
-        return goes(b, Mode::Comment);
-    }
-    if dump_word(t) {
-        return goes(b, Mode::Dump);
-    }
-    value(l, b, Mode::Command, Mode::Id, t)
 }
 
+#[tactic(auto, unfolding(crate::specs::Commands::comment_of))]
 fn comment(b: State, t: &[u8]) -> Reading
     ensures { result ≡ commands.comment_of b t.now }
 {
-    if is_end(t) {
-        return goes(b, Mode::Command);
-    }
-    goes(b, Mode::Comment)
+    let mode = if is_end(t) {
+        Mode::Command
+    } else {
+        Mode::Comment
+    };
+    goes(b, mode)
 }
 
-fn dumped(l: Look, b: State, t: &[u8]) -> Reading
-    ensures { result ≡ commands.dumped_of l b t.now }
+#[tactic(auto, unfolding(crate::specs::Commands::dumped_of))]
+fn dumped(known: Option<u64>, b: State, t: &[u8]) -> Reading
+    ensures { result ≡ commands.dumped_of known b t.now }
 {
     if is_end(t) {
-        return goes(b, Mode::Command);
+        goes(b, Mode::Command)
+    } else {
+        value(known, b, Mode::Dump, Mode::DumpId, t)
     }
-    value(l, b, Mode::Dump, Mode::DumpId, t)
 }
 
-fn read_in(l: Look, b: State, t: &[u8]) -> Reading
-    ensures { result ≡ commands.read_in b.mode l b t.now }
+#[tactic(auto, unfolding(crate::specs::Commands::read_in))]
+fn read_in(known: Option<u64>, b: State, t: &[u8]) -> Reading
+    ensures { result ≡ commands.read_in b.mode known b t.now }
 {
-    let m = b.mode;
-    match m {
-        Mode::Command => command(l, b, t),
+    match b.mode {
+        Mode::Command => command(known, b, t),
         Mode::Comment => comment(b, t),
-        Mode::Dump => dumped(l, b, t),
-        Mode::Id => changed(l, b, Mode::Command, 0),
-        Mode::DumpId => changed(l, b, Mode::Dump, 0),
-        Mode::Bad => goes(b, Mode::Bad),
-        Mode::Late => goes(b, Mode::Late),
+        Mode::Dump => dumped(known, b, t),
+        Mode::Id => changed(known, b, Mode::Command, 0),
+        Mode::DumpId => changed(known, b, Mode::Dump, 0),
+        Mode::Bad | Mode::Late => goes(b, b.mode),
     }
 }
 
 // Whether the text is refused.
+#[tactic(auto, unfolding(crate::specs::Commands::refused))]
 pub fn refused(m: Mode) -> bool
     ensures { result ≡ commands.refused m }
 {
-    match m {
-        Mode::Command => false,
-        Mode::Comment => false,
-        Mode::Dump => false,
-        Mode::Id => false,
-        Mode::DumpId => false,
-        Mode::Bad => true,
-        Mode::Late => true,
-    }
+    matches!(m, Mode::Bad | Mode::Late)
 }
 
-// What a token that stands at a place calls for, and the state after it; `l` is what the header says of the id that it carries.
-pub fn read(l: Look, b: State, t: &[u8], at: usize) -> Reading
-    ensures { result ≡ commands.read_of l b (token_at at t.now) }
+// What a token that stands at a place calls for, and the state after it; `known` is what the header says of the id that it carries.
+#[tactic(auto, unfolding(crate::specs::Commands::read_of))]
+pub fn read(known: Option<u64>, b: State, t: &[u8], at: usize) -> Reading
+    ensures { result ≡ commands.read_of known b (token_at at t.now) }
 {
-    let m = b.mode;
-    if refused(m) {
+    if refused(b.mode) {
         return Reading {
             state: b,
             event: Event::Nothing,
         };
     }
-    let mut here = b;
-    here.place = at;
-    read_in(l, here, t)
+    read_in(known, State { place: at, ..b }, t)
 }
 
 // The state before the first token.
@@ -304,53 +292,28 @@ pub fn start() -> State
 {
     State {
         mode: Mode::Command,
-        marked: false,
-        time: 0,
+        time: None,
         place: 0,
     }
 }
 
 // What the mode after the last token means.
+#[tactic(auto, unfolding(crate::specs::Commands::judged))]
 pub fn judged(m: Mode) -> Outcome
     ensures { result ≡ commands.judged m }
 {
     match m {
-        Mode::Command => Outcome::Accepted,
-        Mode::Comment => Outcome::BadText,
-        Mode::Dump => Outcome::BadText,
-        Mode::Id => Outcome::BadText,
-        Mode::DumpId => Outcome::BadText,
-        Mode::Bad => Outcome::BadText,
-        Mode::Late => Outcome::EarlierTime,
+        Mode::Command => Ok(()),
+        Mode::Late => Err(Fault::EarlierTime),
+        _ => Err(Fault::BadText),
     }
 }
 
 // 12 comes after the whole file.
-pub fn with_room(o: Outcome, room: bool) -> Outcome
-    ensures { result ≡ commands.with_room o room }
+#[tactic(auto, unfolding(crate::specs::Commands::with_room))]
+pub fn with_room(outcome: Outcome, room: bool) -> Outcome
+    ensures { result ≡ commands.with_room outcome room }
 {
-    match o {
-        Outcome::Accepted => {
-            if room {
-                Outcome::Accepted
-            } else {
-                Outcome::NoRoom
-            }
-        }
-        Outcome::BadText => Outcome::BadText,
-        Outcome::EarlierTime => Outcome::EarlierTime,
-        Outcome::NoRoom => Outcome::NoRoom,
-    }
-}
-
-// Whether nothing was refused.
-pub fn accepted(o: Outcome) -> bool
-    ensures { result ≡ commands.accepted o }
-{
-    match o {
-        Outcome::Accepted => true,
-        Outcome::BadText => false,
-        Outcome::EarlierTime => false,
-        Outcome::NoRoom => false,
-    }
+    outcome?;
+    if room { Ok(()) } else { Err(Fault::NoRoom) }
 }

@@ -1,67 +1,66 @@
 -- Pieces put one after the other are put as one.
---   inked-emitted   what is put whole, as a piece      join       two pieces in a row
---   measured        pieces that are only measured      overfull   pieces that do not fit   written   pieces written once they were measured
---   pen-join        the place after two pieces         pen-fits   a pen that is not full   pen-full-size   a text that is too long
-use Prim.Native.Nat.{ℕ, ◌+◌, ◌<◌, ◌≤◌}
-use mathlib.Core.Path.{◌≡◌, refl, sym, ap, ap₂, ◌∙◌}
-use mathlib.Core.Bool.{Bool, true, false, cond, ◌||◌, or-true, and-false}
-use mathlib.Core.List.{List, ◌++◌, append_assoc}
-use native.Mathlib.Omega.{arith}
-use borrow.Author.Tests.{lt-ltb, le-ltb, le-leb, ltb-true, ltb-false}
-use lib.Dec.{ltb}
-use lib.ListN.{length, take, drop, length-append, length-drop}
+--   inked_emitted   what is put whole, as a piece      join            two pieces in a row
+--   pen_join        the place after two pieces         pen_fits        a text that fits
+--   pen_full_size   a text that is too long
+use Rattle.std.proofs.Common.{◌≡◌, ℕ, ◌+◌, ◌<◌, ◌≤◌, Bool, true, false, Option, Some, None, List, ◌++◌, append_assoc, length, take, drop, refl, sym, ap, ap₂, ◌∙◌, lt-ltb, le-ltb, le-leb, arith, length-append, length-drop}
+use Rattle.std.specs.Prelude.{is_some}
+use mathlib.Core.Bool.{and-false, true≢false}
 use lib.Seq.{take_at, drop-append-add, drop-drop, length-take-le}
+use Rattle.std.proofs.lemmas.Bool.{cases_lt}
+use mathlib.Core.Logic.{⊎_elim}
 use Rattle.text.specs.Buffers.{fits, put_of}
-use Rattle.capture_dump.specs.declared.Pen.{Pen}
 use Rattle.capture_dump.specs.Pieces.{pen_of, ink_of, Inked}
 use Rattle.capture_dump.specs.Private.{Emitted}
 
-pub never : true ≡ false → ⊥
-never e = let z : ◌≡◌ {A = ℕ} 0 1 = cc in omega arith
+same_some : {m n : ℕ} → ◌≡◌ {A = Option ℕ} (Some m) (Some n) → m ≡ n
+same_some e = cc
 
-abbrev pub stuck : Pen
-stuck = record { at = 0; full = true }
-
-abbrev pub free : ℕ → Pen
-free at = record { at = at; full = false }
-
-pub pen_full : (n : ℕ) (p : Pen) (s : List ℕ) → p.full ≡ true → pen_of n p s ≡ stuck
+pub pen_over : (n at : ℕ) (s : List ℕ) → n < at + length s → pen_of n (Some at) s ≡ None
 unfolding pen_of
-pen_full n p s e = rw e
+pen_over n at s h = rw (lt-ltb n (at + length s) h)
 
-pub pen_over : (n : ℕ) (p : Pen) (s : List ℕ) → n < p.at + length s → pen_of n p s ≡ stuck
+pub pen_free : (n at : ℕ) (s : List ℕ) → at + length s ≤ n → pen_of n (Some at) s ≡ Some (at + length s)
 unfolding pen_of
-pen_over n p s h = rw (lt-ltb n (p.at + length s) h, or-true)
+pen_free n at s h = rw (le-ltb n (at + length s) h)
 
-pub pen_free : (n : ℕ) (p : Pen) (s : List ℕ) → p.full ≡ false → p.at + length s ≤ n → pen_of n p s ≡ free (p.at + length s)
+pen_none : (n : ℕ) (s : List ℕ) → pen_of n None s ≡ None
 unfolding pen_of
-pen_free n p s e h = rw (e, le-ltb n (p.at + length s) h)
+pen_none n s = refl
 
 -- ---- the place
 
-pub pen_join : (n : ℕ) (p : Pen) (a b : List ℕ) → pen_of n (pen_of n p a) b ≡ pen_of n p (a ++ b)
-pen_join n p a b = by_full p.full refl
-  where
-    by_room : p.full ≡ false → (t : Bool) → ltb n (p.at + length a) ≡ t → pen_of n (pen_of n p a) b ≡ pen_of n p (a ++ b)
-    by_room f true e =
-        let h : n < p.at + length a = ltb-true n (p.at + length a) e in
-        ap (λ q. pen_of n q b) (pen_over n p a h) ∙ pen_full n stuck b refl ∙ sym (pen_over n p (a ++ b) (rw length-append (omega arith)))
-    by_room f false e =
-        let h : p.at + length a ≤ n = ltb-false n (p.at + length a) e in
-        ap (λ q. pen_of n q b) (pen_free n p a f h) ∙ by_rest h f (ltb n (p.at + length a + length b)) refl
-      where
-        by_rest : p.at + length a ≤ n → p.full ≡ false → (t : Bool) → ltb n (p.at + length a + length b) ≡ t → pen_of n (free (p.at + length a)) b ≡ pen_of n p (a ++ b)
-        by_rest h f true e =
-            let g : n < p.at + length a + length b = ltb-true n (p.at + length a + length b) e in
-            pen_over n (free (p.at + length a)) b g ∙ sym (pen_over n p (a ++ b) (rw length-append (omega arith)))
-        by_rest h f false e =
-            let g : p.at + length a + length b ≤ n = ltb-false n (p.at + length a + length b) e in
-            let m : p.at + length a + length b ≡ p.at + length (a ++ b) = rw length-append (omega arith) in
-            pen_free n (free (p.at + length a)) b refl g ∙ ap free m ∙ sym (pen_free n p (a ++ b) f (omega arith))
+pub pen_join : (n : ℕ) (p : Option ℕ) (a b : List ℕ) → pen_of n (pen_of n p a) b ≡ pen_of n p (a ++ b)
+pen_join n None a b = ap (λ q. pen_of n q b) (pen_none n a) ∙ pen_none n b ∙ sym (pen_none n (a ++ b))
+pen_join n (Some at) a b =
+    let l : length (a ++ b) ≡ length a + length b = length-append a b in
+    ⊎_elim
+    (λ (h : n < at + length a). ap (λ q. pen_of n q b) (pen_over n at a h) ∙ pen_none n b ∙ sym (pen_over n at (a ++ b) (omega arith)))
+    (λ (h : at + length a ≤ n).
+    ap (λ q. pen_of n q b) (pen_free n at a h)
+    ∙ ⊎_elim
+    (λ (g : n < at + length a + length b). pen_over n (at + length a) b g ∙ sym (pen_over n at (a ++ b) (omega arith)))
+    (λ (g : at + length a + length b ≤ n).
+    let m : at + length a + length b ≡ at + length (a ++ b) = omega arith in
+    pen_free n (at + length a) b g ∙ ap Some m ∙ sym (pen_free n at (a ++ b) (omega arith)))
+    (cases_lt n (at + length a + length b)))
+    (cases_lt n (at + length a))
 
-    by_full : (t : Bool) → p.full ≡ t → pen_of n (pen_of n p a) b ≡ pen_of n p (a ++ b)
-    by_full true e = ap (λ q. pen_of n q b) (pen_full n p a e) ∙ pen_full n stuck b refl ∙ sym (pen_full n p (a ++ b) e)
-    by_full false e = by_room e (ltb n (p.at + length a)) refl
+-- A text that fits begins at a place.
+pub pen_fits : (n : ℕ) (p : Option ℕ) (s : List ℕ) → is_some (pen_of n p s) ≡ true → (at : ℕ) × (p ≡ Some at) × (at + length s ≤ n) × (pen_of n p s ≡ Some (at + length s))
+pen_fits n None s e = absurd (true≢false (sym e ∙ ap is_some (pen_none n s)))
+pen_fits n (Some at) s e =
+    ⊎_elim
+    (λ (h : n < at + length s). absurd (true≢false (sym e ∙ ap is_some (pen_over n at s h))))
+    (λ (h : at + length s ≤ n). (at, refl, h, pen_free n at s h))
+    (cases_lt n (at + length s))
+
+-- A text that does not fit from the beginning on is longer than the buffer.
+pub pen_full_size : (n : ℕ) (s : List ℕ) → pen_of n (Some 0) s ≡ None → n < length s
+pen_full_size n s e =
+    ⊎_elim
+    (λ (h : n < 0 + length s). omega arith)
+    (λ (h : 0 + length s ≤ n). absurd (true≢false (ap is_some (sym (pen_free n 0 s h) ∙ e))))
+    (cases_lt n (0 + length s))
 
 -- ---- the buffer
 
@@ -92,95 +91,79 @@ module _ (out : List ℕ) (at : ℕ) (a b : List ℕ) (h : at + length a + lengt
       ∙ ap₂ (λ x k. x ++ drop k out) (append_assoc (take at out) a b) m
       ∙ sym (put_fits out at (a ++ b) (omega arith))
 
+put_length : (out : List ℕ) (at : ℕ) (s : List ℕ) → at + length s ≤ length out → length (put_of out at s) ≡ length out
+put_length out at s h = rw (put_fits out at s h) (simp (length-append, length-take-le at out (omega arith), length-drop) (omega arith))
+
 -- ---- both
 
-pub pen_fits : (n : ℕ) (p : Pen) (s : List ℕ) → (pen_of n p s).full ≡ false → (p.full ≡ false) × (p.at + length s ≤ n) × ((pen_of n p s).at ≡ p.at + length s)
-unfolding pen_of
-pen_fits n p s e = by_full p.full (ltb n (p.at + length s)) refl refl e
-  where
-    by_full : (f o : Bool) → p.full ≡ f → ltb n (p.at + length s) ≡ o → (cond (f || o) stuck (free (p.at + length s))).full ≡ false
-        → (p.full ≡ false) × (p.at + length s ≤ n) × ((cond (p.full || ltb n (p.at + length s)) stuck (free (p.at + length s))).at ≡ p.at + length s)
-    by_full false false x y z = (x, ltb-false n (p.at + length s) y, rw (x, y))
-    by_full false true x y z = absurd (never z)
-    by_full true o x y z = absurd (never z)
-
-pub join : {out : List ℕ} {w : Bool} {p : Pen} {a : List ℕ} {q : Pen} {mid b : List ℕ} {r : Pen} {after : List ℕ}
+pub join : {out : List ℕ} {w : Bool} {p : Option ℕ} {a : List ℕ} {q : Option ℕ} {mid b : List ℕ} {r : Option ℕ} {after : List ℕ}
     → Emitted out w p a q mid → Emitted mid w q b r after → Emitted out w p (a ++ b) r after
 join {out} {w} {p} {a} {q} {mid} {b} {r} {after} x y = record {
   place = place;
   size = y.size ∙ x.size;
   kept = λ e. y.kept e ∙ x.kept e;
-  inked = λ e f.
-      let fb = pen_fits (length mid) q b (sym (ap (λ (k : Pen). k.full) y.place) ∙ f) in
-      let fa = pen_fits (length out) p a (sym (ap (λ (k : Pen). k.full) x.place) ∙ fb.0) in
-      let at : q.at ≡ p.at + length a = ap (λ (k : Pen). k.at) x.place ∙ fa.2 in
-      y.inked e f ∙ ap₂ (λ o k. put_of o k b) (x.inked e fb.0) at
-      ∙ put_join out p.at a b (omega (arith, x.size));
+  inked = λ e f at g.
+      let (m, i, j, k) = pen_fits (length mid) q b (ap is_some (sym y.place) ∙ f) in
+      let (n, s, t, u) = pen_fits (length out) p a (ap is_some (sym x.place ∙ i)) in
+      let v : n ≡ at = same_some (sym s ∙ g) in
+      let z : m ≡ at + length a = same_some (sym i ∙ x.place ∙ u) ∙ ap (λ k. k + length a) v in
+      y.inked e f m i ∙ ap₂ (λ o k. put_of o k b) (x.inked e (ap is_some i) at g) z
+      ∙ put_join out at a b (omega (arith, x.size));
 }
   where
     place : r ≡ pen_of (length out) p (a ++ b)
     place = y.place ∙ ap₂ (λ n k. pen_of n k b) x.size x.place ∙ pen_join (length out) p a b
 
--- A pen that was free and is full: the text is longer than the buffer.
-pub pen_full_size : (n : ℕ) (s : List ℕ) → (pen_of n (free 0) s).full ≡ true → n < length s
-unfolding pen_of
-pen_full_size n s e = by_room (ltb n (0 + length s)) refl e
-  where
-    by_room : (o : Bool) → ltb n (0 + length s) ≡ o → (cond o stuck (free (0 + length s))).full ≡ true → n < length s
-    by_room true y z = omega (arith, ltb-true n (0 + length s) y)
-    by_room false y z = absurd (never (sym z))
-
 -- ---- a piece that is put or left
 
-pub ink_kept : (out : List ℕ) (w : Bool) (p : Pen) (s : List ℕ) → w ≡ false → ink_of out w p s ≡ out
+ink_kept : (out : List ℕ) (p : Option ℕ) (s : List ℕ) → ink_of out false p s ≡ out
 unfolding ink_of
-ink_kept out w p s e = rw e
+ink_kept out None s = refl
+ink_kept out (Some at) s = refl
 
-pub ink_full : (out : List ℕ) (w : Bool) (p : Pen) (s : List ℕ) → (pen_of (length out) p s).full ≡ true → ink_of out w p s ≡ out
+ink_full : (out : List ℕ) (w : Bool) (p : Option ℕ) (s : List ℕ) → pen_of (length out) p s ≡ None → ink_of out w p s ≡ out
 unfolding ink_of
-ink_full out w p s f = rw (f, and-false)
+ink_full out w None s e = refl
+ink_full out w (Some at) s e = rw (e, and-false)
 
-pub ink_put : (out : List ℕ) (w : Bool) (p : Pen) (s : List ℕ) → w ≡ true → (pen_of (length out) p s).full ≡ false → ink_of out w p s ≡ put_of out p.at s
+ink_put : (out : List ℕ) (at : ℕ) (s : List ℕ) → at + length s ≤ length out → ink_of out true (Some at) s ≡ put_of out at s
 unfolding ink_of
-ink_put out w p s e f = rw (e, f)
+ink_put out at s h = rw (pen_free (length out) at s h)
 
-put_length : (out : List ℕ) (at : ℕ) (s : List ℕ) → at + length s ≤ length out → length (put_of out at s) ≡ length out
-put_length out at s h = rw (put_fits out at s h) (simp (length-append, length-take-le at out (omega arith), length-drop) (omega arith))
+ink_length : (out : List ℕ) (w : Bool) (p : Option ℕ) (s : List ℕ) → length (ink_of out w p s) ≡ length out
+ink_length out false p s = ap length (ink_kept out p s)
+ink_length out true None s = ap length (ink_full out true None s (pen_none (length out) s))
+ink_length out true (Some at) s =
+    ⊎_elim
+    (λ (h : length out < at + length s). ap length (ink_full out true (Some at) s (pen_over (length out) at s h)))
+    (λ (h : at + length s ≤ length out). ap length (ink_put out at s h) ∙ put_length out at s h)
+    (cases_lt (length out) (at + length s))
 
-ink_length : (out : List ℕ) (w : Bool) (p : Pen) (s : List ℕ) → length (ink_of out w p s) ≡ length out
-ink_length out w p s = by_write w (pen_of (length out) p s).full refl refl
-  where
-    by_write : (t f : Bool) → w ≡ t → (pen_of (length out) p s).full ≡ f → length (ink_of out w p s) ≡ length out
-    by_write false f e g = ap length (ink_kept out w p s e)
-    by_write true true e g = ap length (ink_full out w p s g)
-    by_write true false e g = ap length (ink_put out w p s e g) ∙ put_length out p.at s (pen_fits (length out) p s g).1
-
-module _ {out : List ℕ} {w : Bool} {p : Pen} {s : List ℕ} {q : Pen} {after : List ℕ} where
+module _ {out : List ℕ} {w : Bool} {p : Option ℕ} {s : List ℕ} {q : Option ℕ} {after : List ℕ} where
   pub inked_emitted : Inked out w p s q after → Emitted out w p s q after
   inked_emitted x = record {
     place = x.place;
     size = ap length x.bytes ∙ ink_length out w p s;
-    kept = λ e. x.bytes ∙ ink_kept out w p s e;
-    inked = λ e f. x.bytes ∙ ink_put out w p s e (sym (ap (λ (k : Pen). k.full) x.place) ∙ f);
+    kept = λ e. x.bytes ∙ ap (λ v. ink_of out v p s) e ∙ ink_kept out p s;
+    inked = λ e f at g.
+        let (m, i, j, k) = pen_fits (length out) (Some at) s (ap is_some (ap (λ r. pen_of (length out) r s) (sym g) ∙ sym x.place) ∙ f) in
+        let l : at + length s ≤ length out = rw (same_some i) j in
+        x.bytes ∙ ap₂ (λ v r. ink_of out v r s) e g ∙ ink_put out at s l;
   }
 
-  -- Several pieces that are only measured.
-  pub measured : w ≡ false → Emitted out false p s q after → Inked out w p s q after
-  measured e x = record { place = x.place; bytes = x.kept refl ∙ sym (ink_kept out w p s e) }
+-- ---- what `emit` does
 
-  -- Several pieces that do not fit.
-  pub overfull : Emitted out false p s q after → q.full ≡ true → Inked out w p s q after
-  overfull x f = record { place = x.place; bytes = x.kept refl ∙ sym (ink_full out w p s (sym (ap (λ (k : Pen). k.full) x.place) ∙ f)) }
+pub above : (a b : ℕ) → (a ≤ b → ⊥) → b < a
+above a b h = ⊎_elim (λ (l : b < a). l) (λ (m : a ≤ b). absurd (h m)) (cases_lt b a)
 
--- Several pieces that were measured, fit, and are written.
-pub written : {out : List ℕ} {w : Bool} {p : Pen} {s : List ℕ} {q : Pen} {mid : List ℕ} {r : Pen} {after : List ℕ}
-    → w ≡ true → Emitted out false p s q mid → q.full ≡ false → Emitted mid true p s r after → Inked out w p s r after
-written {out} {w} {p} {s} {q} {mid} {r} {after} e x f y = record {
-  place = place;
-  bytes =
-      let g : (pen_of (length out) p s).full ≡ false = sym (ap (λ (k : Pen). k.full) x.place) ∙ f in
-      y.inked refl (ap (λ (k : Pen). k.full) place ∙ g) ∙ ap (λ o. put_of o p.at s) (x.kept refl) ∙ sym (ink_put out w p s e g);
-}
-  where
-    place : r ≡ pen_of (length out) p s
-    place = y.place ∙ ap (λ n. pen_of n p s) x.size
+pub emit_none : (out : List ℕ) (w : Bool) (s : List ℕ) → Inked out w None s None out
+emit_none out w s = record { place = sym (pen_none (length out) s); bytes = sym (ink_full out w None s (pen_none (length out) s)) }
+
+pub emit_over : (out : List ℕ) (w : Bool) (at : ℕ) (s : List ℕ) → length out < at + length s → Inked out w (Some at) s None out
+emit_over out w at s h = record { place = sym (pen_over (length out) at s h); bytes = sym (ink_full out w (Some at) s (pen_over (length out) at s h)) }
+
+pub emit_measured : (out : List ℕ) (at : ℕ) (s : List ℕ) → at + length s ≤ length out → Inked out false (Some at) s (Some (at + length s)) out
+emit_measured out at s h = record { place = sym (pen_free (length out) at s h); bytes = sym (ink_kept out (Some at) s) }
+
+pub emit_put : (out : List ℕ) (at : ℕ) (s : List ℕ) → at + length s ≤ length out → Inked out true (Some at) s (Some (at + length s)) (put_of out at s)
+emit_put out at s h = record { place = sym (pen_free (length out) at s h); bytes = sym (ink_put out at s h) }

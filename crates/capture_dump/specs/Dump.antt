@@ -1,7 +1,7 @@
 -- The dump that is written (Q-7; 01, "Capture text").
 --   opening    the five fixed lines     line_text   a line's value, where it is to be shown
 --   mark_text   a time that ends
-use Rattle.std.specs.Prelude.{ℕ, Bool, true, false, cond, not, ◌||◌, List, [], ◌∷◌, ◌++◌}
+use Rattle.std.specs.Prelude.{ℕ, Bool, true, false, cond, not, ◌||◌, Option, Some, None, List, [], ◌∷◌, ◌++◌}
 use Prim.Native.Char.{code}
 use Rattle.std.specs.Bool.{beq}
 use Rattle.text.specs.Ascii.{ascii}
@@ -54,5 +54,6 @@ mark_text t now =
     cond (some_differs t.first t.before now) (time_text t.time ++ lines_text t.first t.before now) []
 
 -- What is written where a time may end.
-unfoldable pub end_text : Bool → Time → Lines → List ℕ
-end_text ends t now = cond ends (mark_text t now) []
+unfoldable pub end_text : Option Time → Lines → List ℕ
+end_text None now = []
+end_text (Some t) now = mark_text t now

@@ -1,11 +1,10 @@
 -- The definitions compute: examples, each closed by computation alone.
-use Rattle.std.specs.Prelude.{ℕ, ◌≡◌, refl, Bool, true, false, [], ◌∷◌, map}
+use Rattle.std.specs.Prelude.{ℕ, ◌≡◌, refl, Some, None, Bool, true, false, [], ◌∷◌, map}
 use Rattle.text.specs.Ascii.{ascii}
 use Rattle.text.specs.Buffers.{fits, put_of}
 use Rattle.numbers.specs.Printed.{glyph, digits_within, digits_of}
 use Rattle.capture_dump.specs.declared.Lines.{Lines}
 use Rattle.capture_dump.specs.declared.Time.{Time}
-use Rattle.capture_dump.specs.declared.Pen.{Pen}
 use Rattle.capture_dump.specs.Dump.{value_text, line_text, differs, some_differs, time_text, mark_text}
 use Rattle.capture_dump.specs.Pieces.{pen_of, ink_of}
 
@@ -36,30 +35,24 @@ unfolding mark_text some_differs differs time_text line_text value_text digits_o
 several_digits = refl
 
 -- `ab` at 1 and at 2 of four bytes, the second the last place where it fits; at 3 it does not.
-abbrev pen : ℕ → Pen
-pen at = record { at = at; full = false }
-
-inks : map (λ at. ink_of (1 ∷ 2 ∷ 3 ∷ 4 ∷ []) true (pen at) (ascii "ab")) (1 ∷ 2 ∷ 3 ∷ []) ≡ (1 ∷ 97 ∷ 98 ∷ 4 ∷ []) ∷ (1 ∷ 2 ∷ 97 ∷ 98 ∷ []) ∷ (1 ∷ 2 ∷ 3 ∷ 4 ∷ []) ∷ []
+inks : map (λ at. ink_of (1 ∷ 2 ∷ 3 ∷ 4 ∷ []) true (Some at) (ascii "ab")) (1 ∷ 2 ∷ 3 ∷ []) ≡ (1 ∷ 97 ∷ 98 ∷ 4 ∷ []) ∷ (1 ∷ 2 ∷ 97 ∷ 98 ∷ []) ∷ (1 ∷ 2 ∷ 3 ∷ 4 ∷ []) ∷ []
 unfolding ink_of pen_of put_of fits
 inks = refl
 
 -- Only measured: the buffer stays.
-measures : ink_of (1 ∷ 2 ∷ 3 ∷ 4 ∷ []) false (pen 1) (ascii "ab") ≡ 1 ∷ 2 ∷ 3 ∷ 4 ∷ []
+measures : ink_of (1 ∷ 2 ∷ 3 ∷ 4 ∷ []) false (Some 1) (ascii "ab") ≡ 1 ∷ 2 ∷ 3 ∷ 4 ∷ []
 unfolding ink_of pen_of
 measures = refl
 
 -- The place after it; a pen that is full stays so.
-places : map (λ at. pen_of 4 (pen at) (ascii "ab")) (1 ∷ 2 ∷ []) ≡ pen 3 ∷ pen 4 ∷ []
+places : map (λ at. pen_of 4 (Some at) (ascii "ab")) (1 ∷ 2 ∷ []) ≡ Some 3 ∷ Some 4 ∷ []
 unfolding pen_of
 places = refl
 
-abbrev full : Pen
-full = record { at = 0; full = true }
-
-overfull : pen_of 4 (pen 3) (ascii "ab") ≡ full
+overfull : pen_of 4 (Some 3) (ascii "ab") ≡ None
 unfolding pen_of
 overfull = refl
 
-stays_full : pen_of 4 full [] ≡ full
+stays_full : pen_of 4 None [] ≡ None
 unfolding pen_of
 stays_full = refl

@@ -1,14 +1,16 @@
 // The dump of the four lines, put into a buffer piece by piece, or only measured.
 #![tactic(auto)]
 
-ghost use Rattle.std.specs.Prelude.{◌≡◌, List, ℕ, ◌≤◌, length, drop};
-ghost use Rattle.numbers.specs.Printed.{decimal_of};
+ghost use Rattle.std.specs.Prelude.{◌≡◌, ◌+◌, ◌≤◌, ◌++◌, length, SomeIff};
 ghost use Rattle.capture_dump.specs.Dump.{opening, value_text, line_text, lines_text, time_text, differs as differs_of, some_differs, mark_text, end_text};
-ghost use Rattle.capture_dump.specs.Pieces.{pen_of, Inked};
-ghost use Rattle.capture_dump.specs.Private.{Emitted};
+ghost use Rattle.capture_dump.specs.Pieces.{Inked};
+
+use short::Short;
+
+mod short;
 
 // The four base lines.
-#[derive(Clone, Copy)]
+#[derive(Clone, Copy, PartialEq, Eq, Debug)]
 pub struct Lines {
     pub ipi0: bool,
     pub ipi1: bool,
@@ -16,7 +18,7 @@ pub struct Lines {
     pub br1: bool,
 }
 
-// A time: whether it is the first, and the lines at the end of the one before.
+// A time: whether it is the first, and the lines at the end of the one before; before the first they are those at the start, so that no Option has both.
 #[derive(Clone, Copy)]
 pub struct Time {
     pub time: u64,
@@ -24,155 +26,115 @@ pub struct Time {
     pub before: Lines,
 }
 
-// The place after what was put into a buffer or measured, and whether something did not fit.
-#[derive(Clone, Copy)]
-pub struct Pen {
-    pub at: usize,
-    pub full: bool,
-}
-
-// The place after a piece of n bytes in a buffer of `size` bytes.
-fn room(size: usize, p: Pen, n: usize) -> Pen
-    ensures { (s : List ℕ) → length s ≡ n → result ≡ pen_of size p s }
+// The place after a piece of n bytes in a buffer of `size` bytes, if it fits.
+fn room(size: usize, at: usize, n: usize) -> Option<usize>
+    ensures { SomeIff result (at + n ≤ size) (at + n) }
 {
-    if p.full {
-        return Pen { at: 0, full: true };
-    }
-    if size < p.at {
-        return Pen { at: 0, full: true };
-    }
-    if size - p.at < n {
-        return Pen { at: 0, full: true };
-    }
-    Pen {
-        at: p.at + n,
-        full: false,
-    }
+    at.checked_add(n).filter(|&end| end <= size)
 }
 
-// Puts a piece into a buffer, or only measures it.
-fn emit(out: &mut [u8], p: Pen, s: &[u8], write: bool) -> Pen
+// Puts a piece into a buffer, or only measures it. The place is None once something did not fit.
+// The lent buffer is no field beside the place and `write`: contracts speak of what it holds before and after, which a struct would only wrap.
+// `write` is a flag and no closure: Inked, which docs/PROOFS.md names, has it, and both walks have one contract.
+fn emit(out: &mut [u8], p: Option<usize>, s: &[u8], write: bool) -> Option<usize>
     ensures { Inked out.old write p s.now result out.new }
 {
-    let size = out.len();
-    let q = room(size, p, s.len());
-    if !write {
-        return q;
+    let at = p?;
+    let end = room(out.len(), at, s.len())?;
+    if write {
+        text::put(out, at, s);
     }
-    if q.full {
-        return q;
-    }
-    text::put(out, p.at, s);
-    q
+    Some(end)
 }
 
-fn emit_decimal(out: &mut [u8], p: Pen, n: u64, write: bool) -> Pen
-    ensures { Emitted out.old write p (decimal_of n) result out.new }
+fn push_value(m: &mut Short, on: bool, id: u8)
+    requires { length m.old ≤ 37 }
+    ensures text { m.new ≡ m.old ++ value_text on id }
+    ensures size { length m.new ≤ length m.old + 3 }
 {
-    let digits = numbers::decimal(n);
-    let bytes = digits.bytes;
-    emit_end(out, p, bytes, digits.start, write)
+    let digit = if on { b'1' } else { b'0' };
+    m.push(&[digit, id, b'\n']);
 }
 
-fn emit_end(out: &mut [u8], p: Pen, bytes: [u8; 20], start: usize, write: bool) -> Pen
-    requires { start ≤ 20 }
-    ensures { Emitted out.old write p (drop start bytes) result out.new }
-{
-    emit(out, p, &bytes[start..], write)
-}
-
-fn emit_value(out: &mut [u8], p: Pen, on: bool, id: u8, write: bool) -> Pen
-    ensures { Emitted out.old write p (value_text on id) result out.new }
-{
-    if on {
-        return emit(out, p, &[b'1', id, b'\n'], write);
-    }
-    emit(out, p, &[b'0', id, b'\n'], write)
-}
-
-fn emit_line(out: &mut [u8], p: Pen, shows: bool, on: bool, id: u8, write: bool) -> Pen
-    ensures { Emitted out.old write p (line_text shows on id) result out.new }
+fn push_line(m: &mut Short, shows: bool, on: bool, id: u8)
+    requires { length m.old ≤ 37 }
+    ensures text { m.new ≡ m.old ++ line_text shows on id }
+    ensures size { length m.new ≤ length m.old + 3 }
 {
     if shows {
-        return emit_value(out, p, on, id, write);
+        push_value(m, on, id);
     }
-    emit(out, p, b"", write)
 }
 
+fn push_time(m: &mut Short, n: u64)
+    requires { length m.old ≤ 18 }
+    ensures text { m.new ≡ m.old ++ time_text n }
+    ensures size { length m.new ≤ length m.old + 22 }
+{
+    let digits = numbers::decimal(n);
+    m.push(b"#");
+    m.push(digits.as_slice());
+    m.push(b"\n");
+}
+
+fn push_lines(m: &mut Short, first: bool, before: Lines, after: Lines)
+    requires { length m.old ≤ 28 }
+    ensures { m.new ≡ m.old ++ lines_text first before after }
+{
+    push_line(m, differs(first, before.ipi0, after.ipi0), after.ipi0, b'a');
+    push_line(m, differs(first, before.ipi1, after.ipi1), after.ipi1, b'b');
+    push_line(m, differs(first, before.br0, after.br0), after.br0, b'c');
+    push_line(m, differs(first, before.br1, after.br1), after.br1, b'd');
+}
+
+#[tactic(auto, unfolding(crate::specs::Dump::differs))]
 fn differs(first: bool, before: bool, after: bool) -> bool
     ensures { result ≡ differs_of first before after }
 {
-    first | (before != after)
-}
-
-fn emit_time(out: &mut [u8], p: Pen, n: u64, write: bool) -> Pen
-    ensures { Emitted out.old write p (time_text n) result out.new }
-{
-    let q = emit(out, p, b"#", write);
-    let r = emit_decimal(out, q, n, write);
-    emit(out, r, b"\n", write)
-}
-
-fn emit_lines(out: &mut [u8], p: Pen, first: bool, before: Lines, after: Lines, write: bool) -> Pen
-    ensures { Emitted out.old write p (lines_text first before after) result out.new }
-{
-    let a = differs(first, before.ipi0, after.ipi0);
-    let b = differs(first, before.ipi1, after.ipi1);
-    let c = differs(first, before.br0, after.br0);
-    let d = differs(first, before.br1, after.br1);
-    let q = emit_line(out, p, a, after.ipi0, b'a', write);
-    let r = emit_line(out, q, b, after.ipi1, b'b', write);
-    let s = emit_line(out, r, c, after.br0, b'c', write);
-    emit_line(out, s, d, after.br1, b'd', write)
+    first || before != after
 }
 
 fn some_differs(first: bool, before: Lines, after: Lines) -> bool
     ensures { result ≡ some_differs first before after }
 {
-    let a = differs(first, before.ipi0, after.ipi0);
-    let b = differs(first, before.ipi1, after.ipi1);
-    let c = differs(first, before.br0, after.br0);
-    let d = differs(first, before.br1, after.br1);
-    a | (b | (c | d))
+    first || before != after
 }
 
-fn emit_mark(out: &mut [u8], p: Pen, t: Time, after: Lines, write: bool) -> Pen
-    ensures { Emitted out.old write p (mark_text t after) result out.new }
+// The text of a time that ends.
+fn mark(t: Time, after: Lines) -> Short
+    ensures { result ≡ mark_text t after }
 {
     let before = t.before;
+    let mut m = Short::new();
     if some_differs(t.first, before, after) {
-        let q = emit_time(out, p, t.time, write);
-        return emit_lines(out, q, t.first, before, after, write);
+        push_time(&mut m, t.time);
+        push_lines(&mut m, t.first, before, after);
     }
-    emit(out, p, b"", write)
+    m
 }
 
-// Puts a time that ends, or only measures it. It is measured first, so that nothing is written where it does not fit.
-fn put_mark(out: &mut [u8], p: Pen, t: Time, after: Lines, write: bool) -> Pen
-    ensures { Inked out.old write p (mark_text t after) result out.new }
+// Puts a time that ends, if one does, or only measures it.
+pub fn put_end(
+    out: &mut [u8],
+    p: Option<usize>,
+    ended: Option<Time>,
+    after: Lines,
+    write: bool,
+) -> Option<usize>
+    ensures { Inked out.old write p (end_text ended after) result out.new }
 {
-    let q = emit_mark(out, p, t, after, false);
-    if q.full {
-        return q;
+    match ended {
+        Some(t) => {
+            let m = mark(t, after);
+            emit(out, p, m.as_slice(), write)
+        }
+        None => emit(out, p, b"", write),
     }
-    if !write {
-        return q;
-    }
-    emit_mark(out, p, t, after, true)
-}
-
-// Puts a time, or only measures it, where it ends.
-pub fn put_end(out: &mut [u8], p: Pen, ends: bool, t: Time, after: Lines, write: bool) -> Pen
-    ensures { Inked out.old write p (end_text ends t after) result out.new }
-{
-    if ends {
-        return put_mark(out, p, t, after, write);
-    }
-    emit(out, p, b"", write)
 }
 
 // Puts the declarations and the end of definitions, or only measures them.
-pub fn put_opening(out: &mut [u8], p: Pen, write: bool) -> Pen
+#[tactic(auto, unfolding(crate::specs::Dump::opening))]
+pub fn put_opening(out: &mut [u8], p: Option<usize>, write: bool) -> Option<usize>
     ensures { Inked out.old write p opening result out.new }
 {
     emit(

@@ -4,7 +4,7 @@
 ghost use Rattle.std.specs.Prelude.{◌≡◌, drop};
 ghost use Rattle.capture_forms.specs.Forms.{class_of, next_of, scan_of, id_form, vector_form, real_form, reference_form};
 
-// The first state of each form.
+// The first state of each form. A state is the number of its row in STEPS, which is read at each byte: an enum of the 25 would be cast there and back.
 pub const ID: u8 = 1;
 
 pub const VECTOR: u8 = 3;
@@ -16,6 +16,7 @@ pub const REFERENCE: u8 = 13;
 // In both tables a letter stands for a number: `@` for 0, `A` for 1 and so on.
 
 // The class of a byte below 128.
+// As letters: docs/DECISIONS.md (B38) names both tables; a match on 25 states and 17 classes is the other form.
 const CLASSES: [u8; 128] = *b"@@@@@@@@@@@@@@@@@@@@@@@@@@@@@@@@\
     APPPHPPPPPPJPIKPBCDDDDDDDDNPPPPP\
     PGGGGFGGGGGGGGGGGGGGGGGGEGELOMPG\
@@ -72,10 +73,9 @@ pub fn scan(t: &[u8], from: usize, state: u8) -> u8
     ensures { result ≡ scan_of state (drop from t.now) }
 {
     let mut at = state;
-    let mut i = from;
-    while i < t.len() {
-        at = next(at, t[i]);
-        i += 1;
+    let left = text::rest(t, from);
+    for &c in left {
+        at = next(at, c);
     }
     at
 }
@@ -98,12 +98,12 @@ pub fn vector_form(state: u8) -> bool
 pub fn real_form(state: u8) -> bool
     ensures { result ≡ real_form state }
 {
-    (state == 7) | ((state == 9) | (state == 12))
+    matches!(state, 7 | 9 | 12)
 }
 
 // A reference.
 pub fn reference_form(state: u8) -> bool
     ensures { result ≡ reference_form state }
 {
-    (state == 17) | (state == 24)
+    matches!(state, 17 | 24)
 }

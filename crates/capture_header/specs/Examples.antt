@@ -3,7 +3,6 @@ use Rattle.std.specs.Prelude.{ℕ, ◌≡◌, refl, List, [], ◌∷◌, map}
 use Prim.Native.String.{String}
 use Rattle.bits.specs.Bits.{bit, word, put}
 use Rattle.text.specs.Ascii.{ascii}
-use Rattle.text.specs.Tokens.{same_of}
 use Rattle.numbers.specs.Numbers.{digit_of, formed, value_from, bounded, number_in}
 use Rattle.capture_tokens.specs.Tokens.{Token, blank, attach, words, placed, tokens_from, index_of}
 use Rattle.capture_forms.specs.Forms.{class_of, rules, pick, step_of, next_of, scan_of}
@@ -11,7 +10,7 @@ use Rattle.capture_names.specs.Names.{before, name_of, input_of}
 use Rattle.capture_header.specs.declared.Field.{Field}
 use Rattle.capture_header.specs.declared.Field.TheVariants.{Command, Text, Name, Bad}
 use Rattle.capture_header.specs.declared.Head.{Head}
-use Rattle.capture_header.specs.Header.{head_start, right, declared, opened, skipped, typed, sized_of, id_text, identified, input_in, named, referred, next_at, bad_field, head_next}
+use Rattle.capture_header.specs.Header.{head_start, free, right, with_input, declared, opened, skipped, typed, sized_of, id_text, identified, input_in, named, referred, next_at, bad_field, head_next}
 
 -- A text, and the field, the inputs declared and the place after its tokens.
 pub record Example : Type 0 where
@@ -55,5 +54,5 @@ examples =
     ∷ []
 
 computed : map run examples ≡ examples
-unfolding bit word put same_of digit_of formed value_from bounded number_in blank attach words placed tokens_from index_of class_of rules pick step_of next_of scan_of before name_of input_of right declared opened skipped typed sized_of id_text identified input_in named referred next_at bad_field head_next after examples
+unfolding bit word put digit_of formed value_from bounded number_in blank attach words placed tokens_from index_of class_of rules pick step_of next_of scan_of before name_of input_of free right with_input declared opened skipped typed sized_of id_text identified input_in named referred next_at bad_field head_next after examples
 computed = refl

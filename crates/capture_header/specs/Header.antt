@@ -4,13 +4,13 @@
 -- Name, of a variable's TYPE, SIZE, ID and REFERENCE; Bad, the text is refused.
 --   head_start   the state before the first token     head_next   the state after a token
 --   ends        a token that ended a declaration     begins     a token that ends the header
-use Rattle.std.specs.Prelude.{ℕ, Bool, true, false, cond, not, ◌&&◌, ◌||◌, List, eqb, ltb, length}
+use Rattle.std.specs.Prelude.{ℕ, Bool, true, false, cond, not, ◌&&◌, ◌||◌, List, eqb, length, Option, Some, None, Result, Ok, Err}
 use Prim.Native.Char.{code}
 use Rattle.bits.specs.Bits.{bit, put}
 use Rattle.text.specs.Ascii.{ascii}
 use Rattle.text.specs.Tokens.{same_of}
-use Rattle.numbers.specs.declared.Number.{Number}
-use Rattle.numbers.specs.declared.Number.TheVariants.{Value, TooLarge, Malformed}
+use Rattle.numbers.specs.declared.NumberError.{NumberError}
+use Rattle.numbers.specs.declared.NumberError.TheVariants.{TooLarge, Malformed}
 use Rattle.numbers.specs.Numbers.{number_in}
 use Rattle.capture_tokens.specs.Tokens.{Token, words_of, one_of, is_end}
 use Rattle.capture_forms.specs.Forms.{bad, next_of, scan_of, id_start, id_form, reference_start, reference_form}
@@ -40,12 +40,8 @@ declares t = same_of t var_word || one_of sections t
 
 -- ---- a declaration under way
 
--- No input has this number: a variable of no input.
-abbrev pub no_input : ℕ
-no_input = 64
-
 abbrev pub no_var : Var
-no_var = record { wire = false; one = false; start = 0; size = 0; form = bad; input = no_input }
+no_var = record { wire = false; one = false; start = 0; size = 0; form = bad; input = None }
 
 -- Before the first token.
 abbrev pub head_start : Head
@@ -58,15 +54,25 @@ goes h f = record { field = f; var = h.var; seen = h.seen; place = h.place }
 abbrev pub reading : Head → Field → Var → Head
 reading h f v = record { field = f; var = v; seen = h.seen; place = h.place }
 
--- Its reference may still have the form; a named input is one bit wide and not yet declared.
+-- A variable of no input is free to be declared; a named input where it is one bit wide and not yet declared.
+unfoldable pub free : Option ℕ → Bool → ℕ → Bool
+free None one seen = true
+free (Some i) one seen = one && not (bit seen i)
+
+-- Its reference may still have the form.
 unfoldable pub right : Var → ℕ → Bool
-right v seen = not (eqb v.form bad) && (not (ltb v.input no_input) || (v.one && not (bit seen v.input)))
+right v seen = not (eqb v.form bad) && free v.input v.one seen
+
+-- A word with the bit of an input set, if there is one.
+unfoldable pub with_input : ℕ → Option ℕ → ℕ
+with_input w None = w
+with_input w (Some i) = put 64 w i true
 
 -- At its `$end` the variable is declared, if its reference has the form.
 unfoldable pub declared : Head → Head
 declared h =
     cond (reference_form h.var.form)
-    (record { field = Command; var = h.var; seen = put 64 h.seen h.var.input true; place = h.place })
+    (record { field = Command; var = h.var; seen = with_input h.seen h.var.input; place = h.place })
     (goes h Bad)
 
 -- ---- a token of each field
@@ -82,17 +88,17 @@ skipped h t = goes h (cond (is_end t) Command Text)
 unfoldable pub typed : Head → List ℕ → Head
 typed h t =
     cond (one_of types t)
-    (reading h Size (record { wire = same_of t wire_word; one = false; start = 0; size = 0; form = bad; input = no_input }))
+    (reading h Size (record { wire = same_of t wire_word; one = false; start = 0; size = 0; form = bad; input = None }))
     (goes h Bad)
 
 abbrev pub size_is : Head → Bool → Head
-size_is h one = reading h Id (record { wire = h.var.wire; one = one; start = 0; size = 0; form = bad; input = no_input })
+size_is h one = reading h Id (record { wire = h.var.wire; one = one; start = 0; size = 0; form = bad; input = None })
 
 -- Digits, any number of them.
-unfoldable pub sized_of : Head → Number → Head
-sized_of h (Value n) = size_is h (eqb n 1)
-sized_of h TooLarge = size_is h false
-sized_of h Malformed = goes h Bad
+unfoldable pub sized_of : Head → Result ℕ NumberError → Head
+sized_of h (Ok n) = size_is h (eqb n 1)
+sized_of h (Err TooLarge) = size_is h false
+sized_of h (Err Malformed) = goes h Bad
 
 abbrev pub sized : Head → List ℕ → Head
 sized h t = sized_of h (number_in 10 t)
@@ -105,11 +111,11 @@ id_text t = not (is_end t) && id_form (scan_of id_start t)
 unfoldable pub identified : Head → Token → Head
 identified h t =
     cond (id_text t.text)
-    (reading h Name (record { wire = h.var.wire; one = h.var.one; start = t.at; size = length t.text; form = reference_start; input = no_input }))
+    (reading h Name (record { wire = h.var.wire; one = h.var.one; start = t.at; size = length t.text; form = reference_start; input = None }))
     (goes h Bad)
 
 -- The first token of a wire's reference has the name.
-unfoldable pub input_in : Var → List ℕ → ℕ
+unfoldable pub input_in : Var → List ℕ → Option ℕ
 input_in v t = cond (v.wire && eqb v.form reference_start) (input_of t) v.input
 
 -- White space ends each token of a reference.

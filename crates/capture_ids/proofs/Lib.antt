@@ -1,3 +1,3 @@
 pub mod Bools
-pub mod Ids
+pub mod Headers
 pub mod Table

@@ -1,22 +1,20 @@
 -- The declarations of a capture's header (R33 and R35 to R37 of docs/DECISIONS.md).
 --   header_of    the header's state at its end, the variables that it declares, and the tokens after it
 --   look_of      what some declarations say of an id
-use Rattle.std.specs.Prelude.{ℕ, true, false, cond, List, [], ◌∷◌, length, take, drop}
-use Rattle.bits.specs.Bits.{put}
+use Rattle.std.specs.Prelude.{ℕ, cond, List, [], ◌∷◌, length, take, drop, Option, Some, None, unwrap_or}
 use Rattle.text.specs.Tokens.{same_of}
 use Rattle.capture_tokens.specs.Tokens.{Token, tokens_from}
 use Rattle.capture_header.specs.declared.Var.{Var}
 use Rattle.capture_header.specs.declared.Head.{Head}
-use Rattle.capture_header.specs.Header.{head_start, head_next, ends, begins}
+use Rattle.capture_header.specs.Header.{head_start, head_next, ends, begins, with_input}
 use Rattle.capture_ids.specs.declared.Headed.{Headed}
-use Rattle.capture_ids.specs.declared.Look.{Look}
 
 -- ---- the variables
 
--- An id and the input that has it.
+-- An id and the input that has it, if one has.
 pub record Variable : Type 0 where
   pub id : List ℕ
-  pub input : ℕ
+  pub input : Option ℕ
 
 abbrev pub variable_of : List ℕ → Var → Variable
 variable_of s v = record { id = take v.size (drop v.start s); input = v.input }
@@ -53,18 +51,18 @@ place_of s (t ∷ ts) = t.at
 abbrev pub headed_of : List ℕ → Headed
 headed_of s = record { head = (header_of s).head; at = place_of s (header_of s).rest }
 
--- ---- what the declarations say of an id
+-- ---- what the declarations say of an id: None where it is not declared, else the inputs that have it, bit i for input i
 
-abbrev pub unknown : Look
-unknown = record { known = false; inputs = 0 }
+-- What is known of an id, after one more declaration of it.
+unfoldable pub more_known : Option ℕ → Option ℕ → Option ℕ
+more_known l input = Some (with_input (unwrap_or l 0) input)
 
-unfoldable pub noted : List ℕ → Look → Variable → Look
-noted x l v = cond (same_of v.id x) (record { known = true; inputs = put 64 l.inputs v.input true }) l
+unfoldable pub noted : List ℕ → Option ℕ → Variable → Option ℕ
+noted x l v = cond (same_of v.id x) (more_known l v.input) l
 
-unfoldable pub look_from : List ℕ → Look → List Variable → Look
+unfoldable pub look_from : List ℕ → Option ℕ → List Variable → Option ℕ
 look_from x l [] = l
 look_from x l (v ∷ vs) = look_from x (noted x l v) vs
 
--- Whether it is declared, and the inputs that have it, bit i for input i.
-abbrev pub look_of : List Variable → List ℕ → Look
-look_of vs x = look_from x unknown vs
+abbrev pub look_of : List Variable → List ℕ → Option ℕ
+look_of vs x = look_from x None vs

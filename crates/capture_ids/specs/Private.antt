@@ -1,9 +1,10 @@
 -- For the contracts of private functions alone; no other definition uses these.
 --   left     the header from a state and a place on     Passed   what is learnt of its next token
-use Rattle.std.specs.Prelude.{ℕ, ◌<◌, ◌≤◌, ◌≡◌, true, false, List, [], length}
+use Rattle.std.specs.Prelude.{ℕ, ◌<◌, ◌≤◌, ◌≡◌, List, [], length}
 use Rattle.capture_tokens.specs.Tokens.{tokens_from}
 use Rattle.capture_header.specs.declared.Head.{Head}
 use Rattle.capture_ids.specs.declared.Past.{Past}
+use Rattle.capture_ids.specs.declared.Past.TheVariants.{Ended, Next}
 use Rattle.capture_ids.specs.Ids.{Header, header, header_from, added, place_of}
 
 abbrev pub left : List ℕ → Head → ℕ → Header
@@ -21,6 +22,6 @@ module _ (s : List ℕ) (h : Head) (at : ℕ) where
     pub further : at < n
     pub inside : n ≤ length s
 
-  pub record Passed (r : Past) : Type 0 where
-    pub stops : r.ended ≡ true → Stops r.at
-    pub goes : r.ended ≡ false → Goes r.head r.at
+  abbrev pub Passed : Past → Type 0
+  Passed (Ended n) = Stops n
+  Passed (Next k n) = Goes k n

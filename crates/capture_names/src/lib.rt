@@ -1,38 +1,28 @@
 // The input that a reference names.
 #![tactic(auto)]
 
-ghost use Rattle.std.specs.Prelude.{◌≡◌, length, get_or, drop};
-ghost use Rattle.capture_names.specs.Names.{before, name_of, input_of};
+ghost use Rattle.std.specs.Prelude.{◌≡◌, ◌==◌, get_or, drop, position};
+ghost use Rattle.capture_names.specs.Names.{name_of, input_of};
 
-// The first byte; 0 where there is none.
+// The first byte; 0, which is no mark, where there is none: an Option would be unwrapped so at each test.
 pub fn first(t: &[u8]) -> u8
     ensures { result ≡ get_or t.now 0 0 }
 {
-    if 0 < t.len() { t[0] } else { 0 }
+    t.first().copied().unwrap_or(0)
 }
 
 // A text without its first byte.
 pub fn behind(t: &[u8]) -> &[u8]
     ensures { result.now ≡ drop 1 t.now }
 {
-    if t.len() == 0 {
-        return t;
-    }
-    &t[1..]
+    text::rest(t, 1)
 }
 
-// How many bytes a text has before the first `[`.
-fn name_length(t: &[u8]) -> usize
-    ensures { result ≡ length (before 91 t.now) }
+// The place of the first `[`.
+fn bracket(t: &[u8]) -> Option<usize>
+    ensures { result ≡ position (λ c. c == 91) t.now }
 {
-    let mut i = 0;
-    while i < t.len() {
-        if t[i] == b'[' {
-            return i;
-        }
-        i += 1;
-    }
-    i
+    t.iter().position(|&c| c == b'[')
 }
 
 // The name of a reference.
@@ -42,16 +32,17 @@ fn name(t: &[u8]) -> &[u8]
     if first(t) == b'\\' {
         return behind(t);
     }
-    let n = name_length(t);
-    &t[..n]
+    &t[..bracket(t).unwrap_or(t.len())]
 }
 
-// The input that a reference's first token names; 64 where it names none.
-pub fn input_of(t: &[u8]) -> u64
+// The input that a reference's first token names.
+#[tactic(auto, unfolding(crate::specs::Names::input_of))]
+pub fn input_of(t: &[u8]) -> Option<u64>
     ensures { result ≡ input_of t.now }
 {
-    capture_tokens::index_of(
+    let n = capture_tokens::index_of(
         b"in0 in1 in2 in3 in4 in5 in6 in7 in8 in9 in10 in11 in12 in13 in14 in15 in16 in17 in18 in19 in20 in21 in22 in23 in24 in25 in26 in27 in28 in29 in30 in31 in32 in33 in34 in35 in36 in37 in38 in39 in40 in41 in42 in43 in44 in45 in46 in47 in48 in49 in50 in51 in52 in53 in54 in55 in56 in57 in58 in59 in60 in61 in62 in63",
         name(t),
-    ) as u64
+    )?;
+    Some(n as u64)
 }

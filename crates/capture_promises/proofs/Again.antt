@@ -1,20 +1,18 @@
 -- A dump that is replayed where its lines are wired so is dumped again as it is.
 use Prim.Native.Nat.{ℕ, zero, suc, ◌<◌}
 use mathlib.Core.Path.{◌≡◌, refl, sym, ap, ap₂, ◌∙◌}
-use mathlib.Core.Bool.{Bool, true, false, cond, ◌&&◌, ◌||◌}
+use mathlib.Core.Bool.{Bool, true, false, cond, ◌||◌}
 use mathlib.Core.List.{List, [], ◌∷◌, ◌++◌, append-nil, append_assoc}
 use native.Mathlib.Omega.{arith}
 use borrow.Author.Tests.{lt-ltb, ltb-true}
 use borrow.Table.Steps.{cases}
 use lib.Dec.{ltb}
 use Rattle.bits.specs.Bits.{bit}
-use Rattle.access.specs.declared.Verdict.{Verdict}
-use Rattle.access.specs.declared.Verdict.TheVariants as verdict
+use Rattle.access.specs.declared.Refusal.{Refusal}
 use Rattle.access.specs.Refusal.{first_of}
 use Rattle.admission.specs.Refusals.{input_refusals}
 use Rattle.cores.specs.Core.{line_of}
 use Rattle.tree.specs.declared.Change.TheVariants as change
-use Rattle.answers.specs.declared.Outcome.TheVariants.{Value}
 use Rattle.device.specs.declared.Device.{Device}
 use Rattle.device.specs.declared.Stepped.{Stepped}
 use Rattle.device.specs.Device.{answered_of}
@@ -22,17 +20,16 @@ use Rattle.device.specs.Step.{next_of, step_of}
 use Rattle.steps.specs.Decide.{decide_of, input_plan, planned}
 use Rattle.steps.specs.declared.Plan.TheVariants.{ChangeTree}
 use Rattle.steps.specs.declared.Step.TheVariants.{Input}
-use Rattle.capture_ids.proofs.Bools.{never, both}
+use Rattle.capture_ids.proofs.Bools.{never}
 use Rattle.capture_commands.specs.declared.Event.{Event}
 use Rattle.capture_commands.specs.declared.Event.TheVariants.{Nothing, Mark, Change}
 use Rattle.capture_dump.specs.declared.Lines.{Lines}
 use Rattle.capture_dump.specs.declared.Time.{Time}
 use Rattle.capture_dump.specs.Dump.{differs, some_differs, mark_text, end_text}
-use Rattle.capture_times.specs.declared.Times.{Times}
-use Rattle.capture_times.specs.Times.{ends_of, new_time, marked_of, times_of}
+use Rattle.std.specs.Prelude.{Option, Some, None, Result, Ok, Err, ⊤}
+use Rattle.capture_times.specs.Times.{ended_at, ended_of, new_time, marked_of, times_of}
 use Rattle.capture_run.specs.Run.{step_one, driven_from, begin_of, acted_of, lines_of, last_of, dump_from}
 use Rattle.capture_promises.specs.Promises.{inputs0to3, line_events, lines_events, mark_events, shown_from, level_of, lines, Follows}
-use Rattle.capture_promises.proofs.Lines.{shows}
 
 -- ---- input steps leave the IPI lines
 
@@ -40,9 +37,9 @@ cores_stay : (d : Device) (i : ℕ) (level : Bool) → ((step_of d (Input i leve
 unfolding step_of answered_of decide_of input_plan next_of
 cores_stay d i level = by (first_of (input_refusals i))
   where
-    by : (v : Verdict) → ((next_of d (planned v (ChangeTree (change.Input level i)))).core0 ≡ d.core0) × ((next_of d (planned v (ChangeTree (change.Input level i)))).core1 ≡ d.core1)
-    by verdict.Accepted = (refl, refl)
-    by (verdict.Refused reason) = (refl, refl)
+    by : (v : Result ⊤ Refusal) → ((next_of d (planned v (ChangeTree (change.Input level i)))).core0 ≡ d.core0) × ((next_of d (planned v (ChangeTree (change.Input level i)))).core1 ≡ d.core1)
+    by (Ok u) = (refl, refl)
+    by (Err reason) = (refl, refl)
 
 -- What an answer shows is what the cores give.
 pub record Ipi (a b : Bool) (now : Stepped) : Type 0 where
@@ -75,7 +72,7 @@ module _ {a b : Bool} where
 pub begin_ipi : (d : Device) → Ipi (lines_of (begin_of d)).ipi0 (lines_of (begin_of d)).ipi1 (begin_of d)
 unfolding answered_of
 begin_ipi d =
-    let k = driven_ipi {a = line_of d.core0} {b = line_of d.core1} 64 0 (bit 0xffffffffffffffff) false (answered_of d (Value 0) 0) (record { shown0 = refl; shown1 = refl; core0 = refl; core1 = refl }) in
+    let k = driven_ipi {a = line_of d.core0} {b = line_of d.core1} 64 0 (bit 0xffffffffffffffff) false (answered_of d (Ok 0) 0) (record { shown0 = refl; shown1 = refl; core0 = refl; core1 = refl }) in
     record { shown0 = refl; shown1 = refl; core0 = k.core0 ∙ sym k.shown0; core1 = k.core1 ∙ sym k.shown1 }
 
 -- ---- events in a row
@@ -106,10 +103,10 @@ module _ (i : ℕ) where
 
 -- Events that add nothing to a dump.
 abbrev Silent : List Event → Type 0
-Silent es = (rest : List Event) (u : Times) (now : Stepped) → dump_from (es ++ rest) u now ≡ dump_from rest u (last_of es now)
+Silent es = (rest : List Event) (u : Option Time) (now : Stepped) → dump_from (es ++ rest) u now ≡ dump_from rest u (last_of es now)
 
 line_silent : (s on : Bool) (w : ℕ) → Silent (line_events s on w)
-unfolding line_events dump_from end_text ends_of times_of last_of
+unfolding line_events dump_from end_text ended_of times_of last_of
 line_silent true on w rest u now = refl
 line_silent false on w rest u now = refl
 
@@ -220,59 +217,48 @@ mark_none t now e = rw e
 -- ---- the second run behind the first
 
 -- The first run has the time t under way. The second has that of the last mark that was shown, u, if one was, and holds the lines as they stood at its end.
-pub record Behind (t u : Times) (held : Lines) : Type 0 where
-  pub unmarked : t.marked ≡ false → u.marked ≡ false
-  pub fresh : t.time.first ≡ true → u.marked ≡ false
-  pub later : t.time.first ≡ false → (u.marked ≡ true) × (held ≡ t.time.before) × (u.time.time < t.time.time)
+abbrev Later : Time → Option Time → Lines → Type 0
+Later t None held = ⊥
+Later t (Some u) held = (held ≡ t.before) × (u.time < t.time)
 
-module _ {t u : Times} {held : Lines} (i : Behind t u held) where
-  -- The next mark that is shown ends the time under way, if there is one.
-  ends_same : ends_of u (Mark t.time.time) ≡ u.marked
-  unfolding ends_of
-  ends_same =
-      cases t.time.first
-      (λ e. rw (i.fresh e))
-      (λ e. rw ((i.later e).0, lt-ltb u.time.time t.time.time (i.later e).2))
+pub record BehindAt (t : Time) (u : Option Time) (held : Lines) : Type 0 where
+  pub fresh : t.first ≡ true → u ≡ None
+  pub later : t.first ≡ false → Later t u held
 
-  times_same : times_of u held (Mark t.time.time) ≡ new_time t.time.time t.time.first held
-  unfolding times_of marked_of
-  times_same =
-      cases t.time.first
-      (λ e. rw (i.fresh e, e))
-      (λ e. rw ((i.later e).0, lt-ltb u.time.time t.time.time (i.later e).2, e))
+abbrev pub Behind : Option Time → Option Time → Lines → Type 0
+Behind None u held = u ≡ None
+Behind (Some t) u held = BehindAt t u held
 
-  module _ (now : Lines) where
-    -- A time that ends and is shown.
-    behind_shown : (e : Event) → ends_of t e ≡ true → Behind (times_of t now e) (new_time t.time.time t.time.first held) now
-    unfolding ends_of times_of marked_of
-    behind_shown Nothing h = absurd (never h)
-    behind_shown (Mark n) h =
-        let p = both t.marked (ltb t.time.time n) h in
-        rw (p.0, p.1) (record { unmarked = λ q. absurd (never (sym q)); fresh = λ q. absurd (never q); later = λ q. (refl, refl, ltb-true t.time.time n p.1) })
-    behind_shown (Change inputs level) h = absurd (never h)
+some_none : {u : Time} → Some u ≡ None → ⊥
+some_none q = let z : ⊥ = cc in z
 
-    -- One that is not, or does not end.
-    behind_mark : (n : ℕ) → shows (t.marked && ltb t.time.time n) t.time now ≡ false → Behind (marked_of t now n) u held
-    unfolding marked_of some_differs differs
-    behind_mark n s = by t.marked (ltb t.time.time n) refl refl s
-      where
-        by : (m l : Bool) → t.marked ≡ m → ltb t.time.time n ≡ l → ((m && l) && some_differs t.time.first t.time.before now) ≡ false
-            → Behind (cond m (cond l (new_time n false now) t) (new_time n true now)) u held
-        by false l p q s = record { unmarked = λ e. i.unmarked p; fresh = λ e. i.unmarked p; later = λ e. absurd (never (sym e)) }
-        by true false p q s = i
-        by true true p q s = unshown t.time.first refl s
-          where
-            unshown : (f : Bool) → t.time.first ≡ f → some_differs f t.time.before now ≡ false → Behind (new_time n false now) u held
-            unshown true e s = absurd (never (sym s))
-            unshown false e s =
-                let k = i.later e in
-                record { unmarked = λ z. absurd (never (sym z)); fresh = λ z. absurd (never z); later = λ z. (k.0, k.1 ∙ same_lines t.time.before now s, (let g = ltb-true t.time.time n q in omega (arith, k.2))) }
+-- The next mark that is shown ends the time under way, if there is one.
+ends_same : (t : Time) (u : Option Time) (held : Lines) → BehindAt t u held → ended_of u (Mark t.time) ≡ u
+unfolding ended_of ended_at
+ends_same t None held i = refl
+ends_same t (Some u) held i = cases t.first (λ e. absurd (some_none (i.fresh e))) (λ e. rw (lt-ltb u.time t.time (i.later e).1))
 
-    behind_kept : (e : Event) → shows (ends_of t e) t.time now ≡ false → Behind (times_of t now e) u held
-    unfolding ends_of times_of
-    behind_kept Nothing s = i
-    behind_kept (Mark n) s = behind_mark n s
-    behind_kept (Change inputs level) s = i
+times_same : (t : Time) (u : Option Time) (held : Lines) → BehindAt t u held → times_of u held (Mark t.time) ≡ Some (new_time t.time t.first held)
+unfolding times_of marked_of
+times_same t None held i = cases t.first (λ e. rw e) (λ e. absurd (i.later e))
+times_same t (Some u) held i = cases t.first (λ e. absurd (some_none (i.fresh e))) (λ e. rw (lt-ltb u.time t.time (i.later e).1, e))
+
+-- The lines that are held are those at the end of the time before, if there was one.
+held_before : (t : Time) (u : Option Time) (held : Lines) → BehindAt t u held → t.first ≡ false → held ≡ t.before
+held_before t None held i e = absurd (i.later e)
+held_before t (Some u) held i e = (i.later e).0
+
+-- A time that ends and is shown; one that ends and is not.
+behind_shown : (t : Time) (held now : Lines) (n : ℕ) → t.time < n → BehindAt (new_time n false now) (Some (new_time t.time t.first held)) now
+behind_shown t held now n h = record { fresh = λ q. absurd (never q); later = λ q. (refl, h) }
+
+behind_kept : (t : Time) (u : Option Time) (held now : Lines) (n : ℕ) → t.time < n → some_differs t.first t.before now ≡ false → BehindAt t u held → BehindAt (new_time n false now) u held
+unfolding some_differs differs
+behind_kept t u held now n h s i = cases t.first (λ e. absurd (never (sym (rw e at s)))) (λ e. record { fresh = λ q. absurd (never q); later = λ q. by u (rw e at s) (i.later e) })
+  where
+    by : (u : Option Time) → some_differs false t.before now ≡ false → Later t u held → Later (new_time n false now) u held
+    by None s k = k
+    by (Some u) s k = (k.0 ∙ same_lines t.before now s, omega arith)
 
 -- ---- the two dumps
 
@@ -285,15 +271,18 @@ module _ (dev : Device) {a b : Bool} (f : Follows dev a b) where
   held hist = lines_of (at hist)
 
   -- What is still to be written of it.
-  abbrev pending : Times → List Event → List ℕ
-  pending u hist = end_text u.marked u.time (held hist)
+  abbrev pending : Option Time → List Event → List ℕ
+  pending u hist = end_text u (held hist)
 
-  module _ (t u : Times) (hist : List Event) (i : Behind t u (held hist)) (now : Lines) (ia : now.ipi0 ≡ a) (ib : now.ipi1 ≡ b) where
+  module _ (t : Time) (u : Option Time) (hist : List Event) (i : BehindAt t u (held hist)) (now : Lines) (ia : now.ipi0 ≡ a) (ib : now.ipi1 ≡ b) where
     abbrev mark : List Event
-    mark = Mark t.time.time ∷ changes t.time.first t.time.before now
+    mark = Mark t.time ∷ changes t.first t.before now
 
-    abbrev next : Times
-    next = new_time t.time.time t.time.first (held hist)
+    abbrev next : Option Time
+    next = Some (new_time t.time t.first (held hist))
+
+    before_held : t.first ≡ false → held hist ≡ t.before
+    before_held = held_before t u (held hist) i
 
     -- After the changes of a mark the lines stand as they stood.
     lines_again : held (hist ++ mark) ≡ now
@@ -301,47 +290,67 @@ module _ (dev : Device) {a b : Bool} (f : Follows dev a b) where
     lines_again =
         f (hist ++ mark)
         ∙ ap_lines (sym ia) (sym ib)
-        (level_more 2 false hist mark ∙ level_2 t.time.first t.time.before now (level_of 2 false hist) ∙ settles t.time.first t.time.before.br0 now.br0 (level_of 2 false hist) (λ e. sym (ap (λ (l : Lines). l.br0) (f hist)) ∙ ap (λ (l : Lines). l.br0) (i.later e).1))
-        (level_more 3 false hist mark ∙ level_3 t.time.first t.time.before now (level_of 3 false hist) ∙ settles t.time.first t.time.before.br1 now.br1 (level_of 3 false hist) (λ e. sym (ap (λ (l : Lines). l.br1) (f hist)) ∙ ap (λ (l : Lines). l.br1) (i.later e).1))
+        (level_more 2 false hist mark ∙ level_2 t.first t.before now (level_of 2 false hist) ∙ settles t.first t.before.br0 now.br0 (level_of 2 false hist) (λ e. sym (ap (λ (l : Lines). l.br0) (f hist)) ∙ ap (λ (l : Lines). l.br0) (before_held e)))
+        (level_more 3 false hist mark ∙ level_3 t.first t.before now (level_of 3 false hist) ∙ settles t.first t.before.br1 now.br1 (level_of 3 false hist) (λ e. sym (ap (λ (l : Lines). l.br1) (f hist)) ∙ ap (λ (l : Lines). l.br1) (before_held e)))
 
     -- Its text is the same.
-    text_again : pending next (hist ++ mark) ≡ mark_text t.time now
+    text_again : pending next (hist ++ mark) ≡ mark_text t now
     unfolding end_text
     text_again =
-        ap (mark_text (time t.time.time t.time.first (held hist))) lines_again
-        ∙ mark_same t.time.time t.time.first t.time.before (held hist) now (λ e. (i.later e).1)
+        ap (mark_text (time t.time t.first (held hist))) lines_again
+        ∙ mark_same t.time t.first t.before (held hist) now before_held
 
     -- A mark that is shown, then the rest.
     shown_again : (rest : List Event) → dump_from (mark ++ rest) u (at hist) ≡ pending u hist ++ dump_from rest next (at (hist ++ mark))
     unfolding dump_from acted_of last_of
     shown_again rest =
-        ap₂ (λ (x : Bool) (v : Times). end_text x u.time (held hist) ++ dump_from (changes t.time.first t.time.before now ++ rest) v (at hist)) (ends_same i) (times_same i)
+        ap₂ (λ (x v : Option Time). end_text x (held hist) ++ dump_from (changes t.first t.before now ++ rest) v (at hist)) (ends_same t u (held hist) i) (times_same t u (held hist) i)
         ∙ ap (λ (l : List ℕ). pending u hist ++ l)
-        (lines_silent t.time.first t.time.before now rest next (at hist) ∙ ap (dump_from rest next) (sym (last_more hist mark (begin_of dev))))
+        (lines_silent t.first t.before now rest next (at hist) ∙ ap (dump_from rest next) (sym (last_more hist mark (begin_of dev))))
 
-    -- Where a time may end, then the rest.
-    end_again : (ends : Bool) (rest : List Event) (more : List ℕ)
-        → (shows ends t.time now ≡ true → dump_from rest next (at (hist ++ mark)) ≡ pending next (hist ++ mark) ++ more)
-        → (shows ends t.time now ≡ false → dump_from rest u (at hist) ≡ pending u hist ++ more)
-        → dump_from (mark_events inputs0to3 ends t.time now ++ rest) u (at hist) ≡ pending u hist ++ (end_text ends t.time now ++ more)
-    unfolding mark_events end_text
-    end_again false rest more x y = y refl
-    end_again true rest more x y =
-        cases (some_differs t.time.first t.time.before now)
+    -- A time that ends, then the rest.
+    end_again : (rest : List Event) (more : List ℕ)
+        → (some_differs t.first t.before now ≡ true → dump_from rest next (at (hist ++ mark)) ≡ pending next (hist ++ mark) ++ more)
+        → (some_differs t.first t.before now ≡ false → dump_from rest u (at hist) ≡ pending u hist ++ more)
+        → dump_from (mark_events inputs0to3 (Some t) now ++ rest) u (at hist) ≡ pending u hist ++ (mark_text t now ++ more)
+    unfolding mark_events
+    end_again rest more x y =
+        cases (some_differs t.first t.before now)
         (λ e. rw e (shown_again rest ∙ ap (λ (l : List ℕ). pending u hist ++ l) (x e ∙ ap (λ (l : List ℕ). l ++ more) text_again)))
-        (λ e. rw (e, mark_none t.time now e) (y e))
+        (λ e. rw (e, mark_none t now e) (y e))
 
-  pub again : (es : List Event) (t : Times) (now : Stepped) (u : Times) (hist : List Event) → Ipi a b now → Behind t u (held hist)
-      → dump_from (shown_from inputs0to3 es t now) u (at hist) ≡ pending u hist ++ dump_from es t now
-  unfolding dump_from shown_from
-  again [] t now u hist k i =
-      ap (λ (l : List Event). dump_from l u (at hist)) (sym (append-nil (mark_events inputs0to3 t.marked t.time (lines_of now))))
-      ∙ end_again t u hist i (lines_of now) k.shown0 k.shown1 t.marked [] []
-      (λ e. sym (append-nil (pending (new_time t.time.time t.time.first (held hist)) (hist ++ mark t u hist i (lines_of now) k.shown0 k.shown1))))
+  -- At the end of the file.
+  again_end : (t : Option Time) (now : Stepped) (u : Option Time) (hist : List Event) → Ipi a b now → Behind t u (held hist)
+      → dump_from (mark_events inputs0to3 t (lines_of now)) u (at hist) ≡ pending u hist ++ end_text t (lines_of now)
+  unfolding dump_from mark_events end_text
+  again_end None now u hist k i = sym (append-nil (pending u hist))
+  again_end (Some t) now u hist k i =
+      ap (λ (l : List Event). dump_from l u (at hist)) (sym (append-nil (mark_events inputs0to3 (Some t) (lines_of now))))
+      ∙ end_again t u hist i (lines_of now) k.shown0 k.shown1 [] []
+      (λ e. sym (append-nil (pending (Some (new_time t.time t.first (held hist))) (hist ++ mark t u hist i (lines_of now) k.shown0 k.shown1))))
       (λ e. sym (append-nil (pending u hist)))
-      ∙ ap (λ (l : List ℕ). pending u hist ++ l) (append-nil (end_text t.marked t.time (lines_of now)))
-  again (e ∷ es) t now u hist k i =
-      end_again t u hist i (lines_of now) k.shown0 k.shown1 (ends_of t e) (shown_from inputs0to3 es (times_of t (lines_of now) e) (acted_of e now)) (dump_from es (times_of t (lines_of now) e) (acted_of e now))
-      (λ s. again es (times_of t (lines_of now) e) (acted_of e now) (new_time t.time.time t.time.first (held hist)) (hist ++ mark t u hist i (lines_of now) k.shown0 k.shown1) (acted_ipi e now k)
-      (rw (lines_again t u hist i (lines_of now) k.shown0 k.shown1) (behind_shown i (lines_of now) e (both (ends_of t e) (some_differs t.time.first t.time.before (lines_of now)) s).0)))
-      (λ s. again es (times_of t (lines_of now) e) (acted_of e now) u hist (acted_ipi e now k) (behind_kept i (lines_of now) e s))
+      ∙ ap (λ (l : List ℕ). pending u hist ++ l) (append-nil (mark_text t (lines_of now)))
+
+  pub again : (es : List Event) (t : Option Time) (now : Stepped) (u : Option Time) (hist : List Event) → Ipi a b now → Behind t u (held hist)
+      → dump_from (shown_from inputs0to3 es t now) u (at hist) ≡ pending u hist ++ dump_from es t now
+  unfolding dump_from shown_from mark_events end_text ended_of ended_at times_of marked_of acted_of
+  again [] t now u hist k i = again_end t now u hist k i
+  again (Nothing ∷ es) t now u hist k i = again es t now u hist k i
+  again (Change inputs level ∷ es) t now u hist k i = again es t (acted_of (Change inputs level) now) u hist (acted_ipi (Change inputs level) now k) i
+  again (Mark n ∷ es) None now u hist k i = again es (Some (new_time n true (lines_of now))) now u hist k (record { fresh = λ q. i; later = λ q. absurd (never (sym q)) })
+  again (Mark n ∷ es) (Some t) now u hist k i = by (ltb t.time n) refl (again es)
+    where
+      then : Option Time
+      then = Some (new_time n false (lines_of now))
+
+      by : (c : Bool) → ltb t.time n ≡ c
+          → ((t : Option Time) (now : Stepped) (u : Option Time) (hist : List Event) → Ipi a b now → Behind t u (held hist) → dump_from (shown_from inputs0to3 es t now) u (at hist) ≡ pending u hist ++ dump_from es t now)
+          → dump_from (mark_events inputs0to3 (cond c (Some t) None) (lines_of now) ++ shown_from inputs0to3 es (Some (cond c (new_time n false (lines_of now)) t)) now) u (at hist)
+          ≡ pending u hist ++ (end_text (cond c (Some t) None) (lines_of now) ++ dump_from es (Some (cond c (new_time n false (lines_of now)) t)) now)
+      by false e more = more (Some t) now u hist k i
+      by true e more =
+          let h = ltb-true t.time n e in
+          end_again t u hist i (lines_of now) k.shown0 k.shown1 (shown_from inputs0to3 es then now) (dump_from es then now)
+          (λ s. more then now (Some (new_time t.time t.first (held hist))) (hist ++ mark t u hist i (lines_of now) k.shown0 k.shown1) k
+          (rw (lines_again t u hist i (lines_of now) k.shown0 k.shown1) (behind_shown t (held hist) (lines_of now) n h)))
+          (λ s. more then now u hist k (behind_kept t u (held hist) (lines_of now) n h s i))

@@ -6,18 +6,18 @@ use mathlib.Core.Bool.{Bool, true, false, cond, ◌&&◌}
 use mathlib.Core.List.{List, [], ◌∷◌}
 use lib.Dec.{eqb, ltb}
 use lib.ListN.{get_or, drop}
-use Rattle.numbers.specs.declared.Number.TheVariants.{Value, TooLarge, Malformed}
+use Rattle.numbers.specs.declared.NumberError.TheVariants.{TooLarge, Malformed}
 use Rattle.numbers.specs.Numbers.{formed, value_from, bounded, number_in}
 use Rattle.capture_tokens.specs.Tokens.{Token, one_of, is_end}
 use Rattle.text.specs.Tokens.{same_of}
-use Rattle.capture_ids.specs.declared.Look.{Look}
+use Rattle.std.specs.Prelude.{Option, Some, None, Ok, Err}
 use Rattle.capture_commands.specs.declared.Mode.{Mode}
 use Rattle.capture_commands.specs.declared.Mode.TheVariants.{Command, Comment, Dump, Id, DumpId, Bad, Late}
 use Rattle.capture_commands.specs.declared.State.{State}
 use Rattle.capture_commands.specs.declared.Event.{Event}
 use Rattle.capture_commands.specs.declared.Event.TheVariants.{Nothing, Mark, Change}
 use Rattle.capture_commands.specs.declared.Reading.{Reading}
-use Rattle.capture_commands.specs.Commands.{comment_word, goes, id_in, allowed, changed, scalar, value_of, marks_at, timed_of, command_of, comment_of, dumped_of, dumps, read_in, refused, read_of, placed_at, events_from}
+use Rattle.capture_commands.specs.Commands.{comment_word, goes, id_in, allowed, changed, scalar, value_of, earlier, marks_at, timed_of, command_of, comment_of, dumped_of, dumps, read_in, refused, read_of, placed_at, events_from}
 
 -- A mark's time is below 2^64.
 abbrev pub fits : Event → Bool
@@ -34,10 +34,14 @@ either : (t : Bool) (x y : Reading) → fits x.event ≡ true → fits y.event �
 either true x y p q = p
 either false x y p q = q
 
-module _ (l : Look) (b : State) where
+module _ (l : Option ℕ) (b : State) where
   changed_fits : (m : Mode) (c : ℕ) → fits (changed l b m c).event ≡ true
   unfolding changed
-  changed_fits m c = either (allowed l c) _ _ refl refl
+  changed_fits m c = by l
+    where
+      by : (l : Option ℕ) → fits (changed l b m c).event ≡ true
+      by None = refl
+      by (Some inputs) = either (allowed inputs c) _ _ refl refl
 
   value_fits : (m i : Mode) (t : List ℕ) → fits (value_of l b m i t).event ≡ true
   unfolding value_of
@@ -47,8 +51,8 @@ module _ (l : Look) (b : State) where
   unfolding number_in bounded timed_of marks_at
   timed_fits s = by (formed 10 false s) (ltb (value_from 10 0 s) (2 ^ 64)) refl
     where
-      by : (f r : Bool) → ltb (value_from 10 0 s) (2 ^ 64) ≡ r → fits (timed_of b (cond f (cond r (Value (value_from 10 0 s)) TooLarge) Malformed)).event ≡ true
-      by true true e = either (b.marked && ltb (value_from 10 0 s) b.time) _ _ refl e
+      by : (f r : Bool) → ltb (value_from 10 0 s) (2 ^ 64) ≡ r → fits (timed_of b (cond f (cond r (Ok (value_from 10 0 s)) (Err TooLarge)) (Err Malformed))).event ≡ true
+      by true true e = either (earlier (value_from 10 0 s) b.time) _ _ refl e
       by true false e = refl
       by false r e = refl
 
@@ -66,7 +70,7 @@ module _ (l : Look) (b : State) where
   read_fits Bad t = refl
   read_fits Late t = refl
 
-pub events_fit : (look : List ℕ → Look) (b : State) (ts : List Token) → all_fit (events_from look b ts) ≡ true
+pub events_fit : (look : List ℕ → Option ℕ) (b : State) (ts : List Token) → all_fit (events_from look b ts) ≡ true
 unfolding events_from read_of
 events_fit look b [] = refl
 events_fit look b (t ∷ ts) =

@@ -8,7 +8,6 @@ use native.Mathlib.Omega.{arith}
 use borrow.Table.Steps.{cases}
 use Rattle.bits.specs.Bits.{bit, word, put}
 use Rattle.text.specs.Ascii.{ascii}
-use Rattle.text.specs.Tokens.{same_of}
 use Rattle.numbers.specs.Numbers.{digit_of, separates, formed, value_from, bounded, number_in}
 use Rattle.numbers.specs.Printed.{decimal_of}
 use Rattle.numbers.proofs.RoundTrip.{formed_digits}
@@ -26,9 +25,9 @@ use Rattle.capture_commands.specs.declared.Event.{Event}
 use Rattle.capture_dump.specs.declared.Lines.{Lines}
 use Rattle.capture_dump.specs.declared.Time.{Time}
 use Rattle.capture_dump.specs.Dump.{opening, lines_text, some_differs, time_text, mark_text, end_text}
-use Rattle.capture_times.specs.declared.Times.{Times}
+use Rattle.std.specs.Prelude.{Option, Some, None}
 use Rattle.capture_run.specs.Run.{acted_of, lines_of, dump_from}
-use Rattle.capture_times.specs.Times.{ends_of, times_of}
+use Rattle.capture_times.specs.Times.{ended_of, times_of}
 use Rattle.capture_promises.specs.Promises.{nowhere, inputs0to3, wires}
 use Rattle.capture_promises.proofs.Tokens.{line_token, digits_solid}
 use Rattle.capture_promises.proofs.Lines.{Wires}
@@ -46,37 +45,37 @@ stops s h [] c e = refl
 stops s h (t ∷ ts) c e = rw (c, e)
 
 mark_stands : (at n : ℕ) (rest : List ℕ) → stands (placed at (words (time_text n ++ rest))) ≡ true
-unfolding time_text declares same_of index_of tokens_from placed words attach blank
+unfolding time_text declares index_of tokens_from placed words attach blank
 mark_stands at n rest =
     ap (λ l. stands (placed at (words l))) (append_assoc (code "#" ∷ decimal_of n) (10 ∷ []) rest)
     ∙ ap stands (line_token at (code "#") (decimal_of n) rest (digits_solid false (decimal_of n) (formed_digits 10 (omega arith) (omega arith) n)))
 
 -- Where a time may end.
-end_stands : (at : ℕ) (ends : Bool) (t : Time) (now : Lines) (rest : List ℕ) → stands (placed at (words rest)) ≡ true → stands (placed at (words (end_text ends t now ++ rest))) ≡ true
+end_stands : (at : ℕ) (ended : Option Time) (now : Lines) (rest : List ℕ) → stands (placed at (words rest)) ≡ true → stands (placed at (words (end_text ended now ++ rest))) ≡ true
 unfolding end_text mark_text
-end_stands at false t now rest r = r
-end_stands at true t now rest r =
+end_stands at None now rest r = r
+end_stands at (Some t) now rest r =
     cases (some_differs t.first t.before now)
     (λ e. rw e (ap (λ l. stands (placed at (words l))) (append_assoc (time_text t.time) (lines_text t.first t.before now) rest) ∙ mark_stands at t.time (lines_text t.first t.before now ++ rest)))
     (λ e. rw e r)
 
-dump_stands : (at : ℕ) (es : List Event) (t : Times) (now : Stepped) → stands (placed at (words (dump_from es t now))) ≡ true
+dump_stands : (at : ℕ) (es : List Event) (t : Option Time) (now : Stepped) → stands (placed at (words (dump_from es t now))) ≡ true
 unfolding dump_from words placed
 dump_stands at [] t now =
-    ap (λ l. stands (placed at (words l))) (sym (append-nil (end_text t.marked t.time (lines_of now))))
-    ∙ end_stands at t.marked t.time (lines_of now) [] refl
-dump_stands at (e ∷ es) t now = end_stands at (ends_of t e) t.time (lines_of now) (dump_from es (times_of t (lines_of now) e) (acted_of e now)) (dump_stands at es (times_of t (lines_of now) e) (acted_of e now))
+    ap (λ l. stands (placed at (words l))) (sym (append-nil (end_text t (lines_of now))))
+    ∙ end_stands at t (lines_of now) [] refl
+dump_stands at (e ∷ es) t now = end_stands at (ended_of t e) (lines_of now) (dump_from es (times_of t (lines_of now) e) (acted_of e now)) (dump_stands at es (times_of t (lines_of now) e) (acted_of e now))
 
 -- ---- the two headers
 
 -- The state after the declarations: the last of them, the inputs that were seen, and the place of the last `$end`.
-abbrev head : ℕ → ℕ → ℕ → ℕ → Head
+abbrev head : ℕ → Option ℕ → ℕ → ℕ → Head
 head start input seen place = record { field = Command; var = record { wire = true; one = true; start = start; size = 1; form = 17; input = input }; seen = seen; place = place }
 
-abbrev variable : List ℕ → ℕ → Variable
+abbrev variable : List ℕ → Option ℕ → Variable
 variable id input = record { id = id; input = input }
 
-abbrev pub variables : ℕ → ℕ → ℕ → ℕ → List Variable
+abbrev pub variables : Option ℕ → Option ℕ → Option ℕ → Option ℕ → List Variable
 variables a b c d = variable (ascii "a") a ∷ variable (ascii "b") b ∷ variable (ascii "c") c ∷ variable (ascii "d") d ∷ []
 
 -- A header whose declarations are these, and the tokens after it.
@@ -85,36 +84,36 @@ pub record Heads (s : List ℕ) (vs : List Variable) (ts : List Token) : Type 0 
   pub variables : (header_of s).variables ≡ vs
   pub rest : (header_of s).rest ≡ ts
 
-module _ (es : List Event) (t : Times) (now : Stepped) where
+module _ (es : List Event) (t : Option Time) (now : Stepped) where
   abbrev body : List ℕ
   body = dump_from es t now
 
-  pub dump_heads : Heads (opening ++ body) (variables 64 64 64 64) (placed 115 (words body))
-  unfolding opening header_from same_of blank attach words placed tokens_from index_of class_of rules pick step_of next_of scan_of before name_of input_of declares header.right header.declared header.opened header.skipped header.typed header.sized_of header.id_text header.identified header.input_in header.named header.referred header.next_at header.bad_field header.head_next header.in_name at_command header.ends begins digit_of separates formed value_from bounded number_in bit word put
+  pub dump_heads : Heads (opening ++ body) (variables None None None None) (placed 115 (words body))
+  unfolding opening header_from blank attach words placed tokens_from index_of class_of rules pick step_of next_of scan_of before name_of input_of declares header.free header.right header.with_input header.declared header.opened header.skipped header.typed header.sized_of header.id_text header.identified header.input_in header.named header.referred header.next_at header.bad_field header.head_next header.in_name at_command header.ends begins digit_of separates formed value_from bounded number_in bit word put
   dump_heads =
-      let e = stops (opening ++ body) (head 83 64 0 110) (placed 115 (words body)) refl (dump_stands 115 es t now) in
+      let e = stops (opening ++ body) (head 83 None 0 110) (placed 115 (words body)) refl (dump_stands 115 es t now) in
       record {
         whole = ap (λ (r : Header). at_command r.head.field) e;
-        variables = ap (λ (r : Header). variable (ascii "a") 64 ∷ variable (ascii "b") 64 ∷ variable (ascii "c") 64 ∷ variable (ascii "d") 64 ∷ r.variables) e;
+        variables = ap (λ (r : Header). variable (ascii "a") None ∷ variable (ascii "b") None ∷ variable (ascii "c") None ∷ variable (ascii "d") None ∷ r.variables) e;
         rest = ap (λ (r : Header). r.rest) e;
       }
 
-  pub wired_heads : Heads (wires ++ body) (variables 0 1 2 3) (placed 113 (words body))
-  unfolding wires header_from same_of blank attach words placed tokens_from index_of class_of rules pick step_of next_of scan_of before name_of input_of declares header.right header.declared header.opened header.skipped header.typed header.sized_of header.id_text header.identified header.input_in header.named header.referred header.next_at header.bad_field header.head_next header.in_name at_command header.ends begins digit_of separates formed value_from bounded number_in bit word put
+  pub wired_heads : Heads (wires ++ body) (variables (Some 0) (Some 1) (Some 2) (Some 3)) (placed 113 (words body))
+  unfolding wires header_from blank attach words placed tokens_from index_of class_of rules pick step_of next_of scan_of before name_of input_of declares header.free header.right header.with_input header.declared header.opened header.skipped header.typed header.sized_of header.id_text header.identified header.input_in header.named header.referred header.next_at header.bad_field header.head_next header.in_name at_command header.ends begins digit_of separates formed value_from bounded number_in bit word put
   wired_heads =
-      let e = stops (wires ++ body) (head 81 3 15 108) (placed 113 (words body)) refl (dump_stands 113 es t now) in
+      let e = stops (wires ++ body) (head 81 (Some 3) 15 108) (placed 113 (words body)) refl (dump_stands 113 es t now) in
       record {
         whole = ap (λ (r : Header). at_command r.head.field) e;
-        variables = ap (λ (r : Header). variable (ascii "a") 0 ∷ variable (ascii "b") 1 ∷ variable (ascii "c") 2 ∷ variable (ascii "d") 3 ∷ r.variables) e;
+        variables = ap (λ (r : Header). variable (ascii "a") (Some 0) ∷ variable (ascii "b") (Some 1) ∷ variable (ascii "c") (Some 2) ∷ variable (ascii "d") (Some 3) ∷ r.variables) e;
         rest = ap (λ (r : Header). r.rest) e;
       }
 
 -- ---- what they say of the four ids
 
-pub dump_wires : Wires (look_of (variables 64 64 64 64)) nowhere
-unfolding look_from noted same_of bit word put
+pub dump_wires : Wires (look_of (variables None None None None)) nowhere
+unfolding look_from noted ids.more_known header.with_input bit word put
 dump_wires = record { a = refl; b = refl; c = refl; d = refl }
 
-pub wired_wires : Wires (look_of (variables 0 1 2 3)) inputs0to3
-unfolding look_from noted same_of bit word put
+pub wired_wires : Wires (look_of (variables (Some 0) (Some 1) (Some 2) (Some 3))) inputs0to3
+unfolding look_from noted ids.more_known header.with_input bit word put
 wired_wires = record { a = refl; b = refl; c = refl; d = refl }

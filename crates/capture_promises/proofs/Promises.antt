@@ -15,12 +15,12 @@ use Rattle.capture_ids.specs.Ids.{Variable, header_of, look_of}
 use Rattle.capture_ids.proofs.Bools.{never}
 use Rattle.capture_commands.specs.declared.Event.{Event}
 use Rattle.capture_commands.specs.declared.Event.TheVariants.{Nothing, Mark, Change}
-use Rattle.capture_commands.specs.declared.Outcome.{Outcome}
-use Rattle.capture_commands.specs.declared.Outcome.TheVariants.{Accepted, BadText, EarlierTime, NoRoom}
-use Rattle.capture_commands.specs.Commands.{outcome_number, judged, state_start, state_from, events_from, accepted}
-use Rattle.capture_times.specs.declared.Times.{Times}
+use Rattle.std.specs.Prelude.{Some, None, Result, Ok, Err, ⊤}
+use Rattle.capture_commands.specs.declared.Fault.{Fault}
+use Rattle.capture_commands.specs.declared.Fault.TheVariants.{BadText, EarlierTime, NoRoom}
+use Rattle.capture_commands.specs.Commands.{fault_number, outcome_number, judged, state_start, state_from, events_from, accepted}
 use Rattle.capture_dump.specs.Dump.{opening, end_text}
-use Rattle.capture_run.specs.Run.{step_one, driven_from, begin_of, lines_of, acted_of, last_of, dump_from}
+use Rattle.capture_run.specs.Run.{step_one, driven_from, begin_of, acted_of, last_of, dump_from}
 use Rattle.capture_times.specs.Times.{times_start}
 use Rattle.capture.specs.Replay.{says, events_of, text_outcome, dump_of, device_of, outcome_of, answer_of, replay_of, buffer_of}
 use Rattle.capture_promises.specs.Promises.{RefusedReplay, changes, QuietReplay, Wiring, nowhere, inputs0to3, shown_from, wired_of, DumpAccepted, DumpLines, DumpWired, DumpAgain}
@@ -32,12 +32,12 @@ use Rattle.capture_promises.proofs.Openings.{Heads, variables, dump_heads, wired
 
 -- ---- refused replays
 
-numbers : (o : Outcome) → accepted o ≡ false → (10 ≤ outcome_number o) × (outcome_number o ≤ 12)
-unfolding accepted outcome_number
-numbers Accepted e = absurd (never (sym e))
-numbers BadText e = (omega arith, omega arith)
-numbers EarlierTime e = (omega arith, omega arith)
-numbers NoRoom e = (omega arith, omega arith)
+numbers : (o : Result ⊤ Fault) → accepted o ≡ false → (10 ≤ outcome_number o) × (outcome_number o ≤ 12)
+unfolding accepted outcome_number fault_number
+numbers (Ok u) e = absurd (never (sym e))
+numbers (Err BadText) e = (omega arith, omega arith)
+numbers (Err EarlierTime) e = (omega arith, omega arith)
+numbers (Err NoRoom) e = (omega arith, omega arith)
 
 pub refused_replay : RefusedReplay
 unfolding replay_of buffer_of answer_of
@@ -82,41 +82,38 @@ quiet_replay d s e = ap (λ (k : Stepped). k.device) (quiet (events_of s) (begin
 -- ---- the dump, read back
 
 module _ (s : List ℕ) (vs : List Variable) (w : Wiring) (l : Wires (look_of vs) w) (from : List ℕ) (d : Device) (n : ℕ) where
-  abbrev times : Times
-  times = times_start (lines_of (begin_of d))
-
   abbrev body : List ℕ
-  body = dump_from (events_of from) times (begin_of d)
+  body = dump_from (events_of from) times_start (begin_of d)
 
   module _ (h : Heads s vs (placed n (words body))) where
-    back : ReadBack w l false 0 0 n body (shown_from w (events_of from) times (begin_of d))
-    back = read_back w l (events_of from) (events_fit (says from) state_start (header_of from).rest) times (begin_of d) 0 n (record { below = λ e. absurd (never e); fits = λ e. absurd (never e) })
+    back : ReadBack w l None 0 n body (shown_from w (events_of from) times_start (begin_of d))
+    back = read_back w l (events_of from) (events_fit (says from) state_start (header_of from).rest) times_start (begin_of d) 0 n (record { below = tt; fits = tt })
 
-    pub text_accepted : text_outcome s ≡ Accepted
+    pub text_accepted : text_outcome s ≡ Ok tt
     unfolding text_outcome judged
     text_accepted =
-        ap (λ (t : Bool). cond t (judged (state_from (says s) state_start (header_of s).rest).mode) BadText) h.whole
+        ap (λ (t : Bool). cond t (judged (state_from (says s) state_start (header_of s).rest).mode) (Err BadText)) h.whole
         ∙ ap₂ (λ (v : List Variable) (ts : List Token). judged (state_from (look_of v) state_start ts).mode) h.variables h.rest
         ∙ ap judged back.mode
 
-    pub text_events : events_of s ≡ shown_from w (events_of from) times (begin_of d)
+    pub text_events : events_of s ≡ shown_from w (events_of from) times_start (begin_of d)
     text_events = ap₂ (λ (v : List Variable) (ts : List Token). events_from (look_of v) state_start ts) h.variables h.rest ∙ back.events
 
 pub dump_accepted : DumpAccepted
 unfolding dump_of
-dump_accepted d s = text_accepted (dump_of s d) (variables 64 64 64 64) nowhere dump_wires s d 115 (dump_heads (events_of s) (times_start (lines_of (begin_of d))) (begin_of d))
+dump_accepted d s = text_accepted (dump_of s d) (variables None None None None) nowhere dump_wires s d 115 (dump_heads (events_of s) times_start (begin_of d))
 
 pub dump_lines : DumpLines
 unfolding dump_of
-dump_lines d s = text_events (dump_of s d) (variables 64 64 64 64) nowhere dump_wires s d 115 (dump_heads (events_of s) (times_start (lines_of (begin_of d))) (begin_of d))
+dump_lines d s = text_events (dump_of s d) (variables None None None None) nowhere dump_wires s d 115 (dump_heads (events_of s) times_start (begin_of d))
 
 pub dump_wired : DumpWired
 unfolding wired_of
 dump_wired d s =
-    let h = wired_heads (events_of s) (times_start (lines_of (begin_of d))) (begin_of d) in
+    let h = wired_heads (events_of s) times_start (begin_of d) in
     record {
-      accepted = text_accepted (wired_of s d) (variables 0 1 2 3) inputs0to3 wired_wires s d 113 h;
-      lines = text_events (wired_of s d) (variables 0 1 2 3) inputs0to3 wired_wires s d 113 h;
+      accepted = text_accepted (wired_of s d) (variables (Some 0) (Some 1) (Some 2) (Some 3)) inputs0to3 wired_wires s d 113 h;
+      lines = text_events (wired_of s d) (variables (Some 0) (Some 1) (Some 2) (Some 3)) inputs0to3 wired_wires s d 113 h;
     }
 
 -- ---- the dump, dumped again
@@ -124,7 +121,6 @@ dump_wired d s =
 pub dump_again : DumpAgain
 unfolding dump_of last_of end_text
 dump_again d e s f =
-    ap (λ (es : List Event). opening ++ dump_from es (times_start (lines_of (begin_of e))) (begin_of e)) (dump_wired d s).lines
+    ap (λ (es : List Event). opening ++ dump_from es times_start (begin_of e)) (dump_wired d s).lines
     ∙ ap (λ (l : List ℕ). opening ++ l)
-    (again e f (events_of s) (times_start (lines_of (begin_of d))) (begin_of d) (times_start (lines_of (begin_of e))) [] (begin_ipi d)
-    (record { unmarked = λ q. refl; fresh = λ q. refl; later = λ q. absurd (never (sym q)) }))
+    (again e f (events_of s) times_start (begin_of d) times_start [] (begin_ipi d) refl)

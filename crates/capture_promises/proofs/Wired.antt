@@ -21,7 +21,7 @@ use Rattle.bridge.specs.declared.Bridge.{Bridge}
 use Rattle.bridge.specs.Sources as sources
 use Rattle.bridge.specs.Changes as changes
 use Rattle.tree.specs.Tree as tree
-use Rattle.answers.specs.declared.Outcome.TheVariants.{Value}
+use Rattle.std.specs.Prelude.{Ok}
 use Rattle.device.specs.declared.Stepped.{Stepped}
 use Rattle.device.specs.Device.{answered_of}
 use Rattle.device.specs.Step.{next_of, step_of}
@@ -184,7 +184,7 @@ ipi_line false = refl
 pub device_follows : DeviceFollows
 unfolding wired_device answered_of bit
 device_follows a b es =
-    let first = answered_of (wired_device a b) (Value 0) 0 in
+    let first = answered_of (wired_device a b) (Ok 0) 0 in
     let r = driven (bit 0xffffffffffffffff) false 64 0 first 0 (omega arith) (record {
       gate = refl;
       bridge = record { mask = refl; msi = refl; edge = refl; soft = refl; auto = refl; route = refl; level = refl };

@@ -4,21 +4,19 @@
 --   DumpAccepted    a dump is itself a capture that is accepted
 --   DumpLines       read back, it calls for the lines' own marks and values; DumpWired, where its wires are inputs
 --   DumpAgain       there, on a device whose lines follow those inputs, it is dumped again as it is
-use Rattle.std.specs.Prelude.{ℕ, ◌≤◌, ◌≡◌, Bool, false, cond, ◌||◌, List, [], ◌∷◌, ◌++◌}
+use Rattle.std.specs.Prelude.{ℕ, ◌≤◌, ◌≡◌, Bool, false, cond, ◌||◌, List, [], ◌∷◌, ◌++◌, Option, Some, None, Ok}
 use Rattle.bits.specs.Bits.{bit, some}
 use Rattle.text.specs.Ascii.{ascii}
 use Rattle.device.specs.declared.Device.{Device}
 use Rattle.device.specs.declared.Stepped.{Stepped}
 use Rattle.capture_commands.specs.declared.Event.{Event}
 use Rattle.capture_commands.specs.declared.Event.TheVariants.{Nothing, Mark, Change}
-use Rattle.capture_commands.specs.declared.Outcome.TheVariants.{Accepted}
 use Rattle.capture_commands.specs.Commands.{outcome_number, accepted}
 use Rattle.capture_dump.specs.declared.Lines.{Lines}
 use Rattle.capture_dump.specs.declared.Time.{Time}
 use Rattle.capture_dump.specs.Dump.{differs, some_differs}
-use Rattle.capture_times.specs.declared.Times.{Times}
 use Rattle.capture_run.specs.Run.{begin_of, acted_of, lines_of, last_of, dump_from}
-use Rattle.capture_times.specs.Times.{ends_of, times_of, times_start}
+use Rattle.capture_times.specs.Times.{ended_of, times_of, times_start}
 use Rattle.capture.specs.Replay.{events_of, text_outcome, dump_of, device_of, replay_of, buffer_of}
 
 -- ---- refused replays
@@ -59,7 +57,7 @@ wires =
 
 -- The dump with these names in place of its own.
 unfoldable pub wired_of : List ℕ → Device → List ℕ
-wired_of s d = wires ++ dump_from (events_of s) (times_start (lines_of (begin_of d))) (begin_of d)
+wired_of s d = wires ++ dump_from (events_of s) times_start (begin_of d)
 
 -- The inputs that have each of the four ids, bit i for input i.
 pub record Wiring : Type 0 where
@@ -85,27 +83,27 @@ lines_events w first before now =
     ++ (line_events (differs first before.br0 now.br0) now.br0 w.c
     ++ line_events (differs first before.br1 now.br1) now.br1 w.d))
 
-unfoldable pub mark_events : Wiring → Bool → Time → Lines → List Event
-mark_events w ends t now =
-    cond ends (cond (some_differs t.first t.before now) (Mark t.time ∷ lines_events w t.first t.before now) []) []
+unfoldable pub mark_events : Wiring → Option Time → Lines → List Event
+mark_events w None now = []
+mark_events w (Some t) now = cond (some_differs t.first t.before now) (Mark t.time ∷ lines_events w t.first t.before now) []
 
-unfoldable pub shown_from : Wiring → List Event → Times → Stepped → List Event
-shown_from w [] t now = mark_events w t.marked t.time (lines_of now)
-shown_from w (e ∷ es) t now = mark_events w (ends_of t e) t.time (lines_of now) ++ shown_from w es (times_of t (lines_of now) e) (acted_of e now)
+unfoldable pub shown_from : Wiring → List Event → Option Time → Stepped → List Event
+shown_from w [] t now = mark_events w t (lines_of now)
+shown_from w (e ∷ es) t now = mark_events w (ended_of t e) (lines_of now) ++ shown_from w es (times_of t (lines_of now) e) (acted_of e now)
 
 -- The lines of a replay at the end of each mark, as changes of what they are wired to.
 abbrev pub shown_of : Wiring → List ℕ → Device → List Event
-shown_of w s d = shown_from w (events_of s) (times_start (lines_of (begin_of d))) (begin_of d)
+shown_of w s d = shown_from w (events_of s) times_start (begin_of d)
 
 abbrev pub DumpAccepted : Type 0
-DumpAccepted = (d : Device) (s : List ℕ) → text_outcome (dump_of s d) ≡ Accepted
+DumpAccepted = (d : Device) (s : List ℕ) → text_outcome (dump_of s d) ≡ Ok tt
 
 abbrev pub DumpLines : Type 0
 DumpLines = (d : Device) (s : List ℕ) → events_of (dump_of s d) ≡ shown_of nowhere s d
 
 -- Wired to inputs, its replay is the lines' own.
 pub record Wired (d : Device) (s : List ℕ) : Type 0 where
-  pub accepted : text_outcome (wired_of s d) ≡ Accepted
+  pub accepted : text_outcome (wired_of s d) ≡ Ok tt
   pub lines : events_of (wired_of s d) ≡ shown_of inputs0to3 s d
 
 abbrev pub DumpWired : Type 0

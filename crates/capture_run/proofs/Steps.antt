@@ -27,7 +27,7 @@ use Rattle.tree.proofs.Lines.{line_bit}
 use Rattle.admission.specs.Refusals.{input_refusals}
 use Rattle.steps.specs.declared.Step.TheVariants.{Input}
 use Rattle.steps.specs.Decide.{decide_of, input_plan}
-use Rattle.answers.specs.declared.Outcome.TheVariants.{Value}
+use Rattle.std.specs.Prelude.{Ok}
 use Rattle.device.specs.declared.Device.{Device}
 use Rattle.device.specs.declared.Stepped.{Stepped}
 use Rattle.device.specs.Device.{answered_of, with_tree}
@@ -149,17 +149,17 @@ tree_commute t to i j = λ n. record {
 
 module _ (d : Device) (to : Bool) where
   -- an input step that is accepted
-  step_at_lem : (i : ℕ) → i < 64 → step_of d (Input i to) ≡ answered_of (with_tree d (stepped to i d.tree)) (Value 0) 0
+  step_at_lem : (i : ℕ) → i < 64 → step_of d (Input i to) ≡ answered_of (with_tree d (stepped to i d.tree)) (Ok 0) 0
   unfolding step_of decide_of input_plan input_refusals next_of outcome_of moved_word cell_of moved.cell_of
   step_at_lem i h = rw (le-ltb 63 i (omega arith), differ_same 64 0)
 
 module _ (d : Device) (to : Bool) where
-  two_steps : (i j : ℕ) → i < 64 → j < 64 → step_of (step_of d (Input i to)).device (Input j to) ≡ answered_of (with_tree d (stepped to j (stepped to i d.tree))) (Value 0) 0
+  two_steps : (i j : ℕ) → i < 64 → j < 64 → step_of (step_of d (Input i to)).device (Input j to) ≡ answered_of (with_tree d (stepped to j (stepped to i d.tree))) (Ok 0) 0
   unfolding answered_of
   two_steps i j h g = ap (λ (x : Stepped). step_of x.device (Input j to)) (step_at_lem d to i h) ∙ step_at_lem (with_tree d (stepped to i d.tree)) to j g
 
 pub inputs_commute : InputsCommute
 inputs_commute to i j h g now =
     two_steps now.device to i j h g
-    ∙ ap (λ (t : Tree). answered_of (with_tree now.device t) (Value 0) 0) (tree_commute now.device.tree to i j)
+    ∙ ap (λ (t : Tree). answered_of (with_tree now.device t) (Ok 0) 0) (tree_commute now.device.tree to i j)
     ∙ sym (two_steps now.device to j i g h)

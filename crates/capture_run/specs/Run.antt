@@ -2,9 +2,8 @@
 --   driven_of   inputs taken to a level, lowest number first     begin_of    all inputs taken to 0
 --   acted_of    the device after what a token calls for          lines_of    the four base lines
 --   last_of     the device after all of it                       dump_from   the dump from a device and a time on
-use Rattle.std.specs.Prelude.{ℕ, zero, suc, Bool, false, cond, List, [], ◌∷◌, ◌++◌}
+use Rattle.std.specs.Prelude.{ℕ, zero, suc, Bool, false, cond, List, [], ◌∷◌, ◌++◌, Option, Ok}
 use Rattle.bits.specs.Bits.{bit}
-use Rattle.answers.specs.declared.Outcome.TheVariants.{Value}
 use Rattle.device.specs.declared.Device.{Device}
 use Rattle.device.specs.declared.Stepped.{Stepped}
 use Rattle.device.specs.Device.{answered_of}
@@ -14,8 +13,8 @@ use Rattle.capture_commands.specs.declared.Event.{Event}
 use Rattle.capture_commands.specs.declared.Event.TheVariants.{Nothing, Mark, Change}
 use Rattle.capture_dump.specs.declared.Lines.{Lines}
 use Rattle.capture_dump.specs.Dump.{end_text}
-use Rattle.capture_times.specs.declared.Times.{Times}
-use Rattle.capture_times.specs.Times.{ends_of, times_of}
+use Rattle.capture_dump.specs.declared.Time.{Time}
+use Rattle.capture_times.specs.Times.{ended_of, times_of}
 
 -- ---- input steps
 
@@ -34,7 +33,7 @@ driven_of inputs level now = driven_from 0 64 (bit inputs) level now
 
 -- Before the file each of in0 to in63 is taken to 0 by an input change, declared or not.
 abbrev pub begin_of : Device → Stepped
-begin_of d = driven_of 0xffffffffffffffff false (answered_of d (Value 0) 0)
+begin_of d = driven_of 0xffffffffffffffff false (answered_of d (Ok 0) 0)
 
 -- ---- what a token calls for
 
@@ -53,6 +52,6 @@ last_of [] now = now
 last_of (e ∷ es) now = last_of es (acted_of e now)
 
 -- The end of the file ends the last time.
-unfoldable pub dump_from : List Event → Times → Stepped → List ℕ
-dump_from [] t now = end_text t.marked t.time (lines_of now)
-dump_from (e ∷ es) t now = end_text (ends_of t e) t.time (lines_of now) ++ dump_from es (times_of t (lines_of now) e) (acted_of e now)
+unfoldable pub dump_from : List Event → Option Time → Stepped → List ℕ
+dump_from [] t now = end_text t (lines_of now)
+dump_from (e ∷ es) t now = end_text (ended_of t e) (lines_of now) ++ dump_from es (times_of t (lines_of now) e) (acted_of e now)

@@ -4,7 +4,6 @@
 ghost use Rattle.std.specs.Prelude.{◌≡◌};
 ghost use Rattle.capture_run.specs.Run as run;
 
-use answers::Outcome;
 use capture_commands::Event;
 use capture_dump::Lines;
 use device::{Device, Stepped};
@@ -15,12 +14,11 @@ fn driven(inputs: u64, level: bool, before: Stepped) -> Stepped
     ensures { result ≡ run.driven_of inputs level before }
 {
     let mut now = before;
-    let mut w = inputs;
-    while w != 0 {
-        let source = lanes::lowest(w) as u64;
-        let d = now.device;
-        now = d.step(Step::Input { source, level });
-        w = lanes::clear_lowest(w);
+    let mut left = inputs;
+    while left != 0 {
+        let source = u64::from(lanes::lowest(left));
+        now = now.device.step(Step::Input { source, level });
+        left = lanes::clear_lowest(left);
     }
     now
 }
@@ -29,20 +27,16 @@ fn driven(inputs: u64, level: bool, before: Stepped) -> Stepped
 pub fn begin(d: Device) -> Stepped
     ensures { result ≡ run.begin_of d }
 {
-    driven(
-        0xffff_ffff_ffff_ffff,
-        false,
-        d.answered(Outcome::Value(0), 0),
-    )
+    driven(u64::MAX, false, d.answered(Ok(0), 0))
 }
 
 // The device after what a token calls for.
+#[tactic(auto, unfolding(crate::specs::Run::acted_of))]
 pub fn acted(e: Event, now: Stepped) -> Stepped
     ensures { result ≡ run.acted_of e now }
 {
     match e {
-        Event::Nothing => now,
-        Event::Mark(_) => now,
+        Event::Nothing | Event::Mark(_) => now,
         Event::Change { inputs, level } => driven(inputs, level, now),
     }
 }
@@ -51,11 +45,10 @@ pub fn acted(e: Event, now: Stepped) -> Stepped
 pub fn lines(now: Stepped) -> Lines
     ensures { result ≡ run.lines_of now }
 {
-    let answer = now.answer;
     Lines {
-        ipi0: answer.ipi0,
-        ipi1: answer.ipi1,
-        br0: answer.bridge0,
-        br1: answer.bridge1,
+        ipi0: now.answer.ipi0,
+        ipi1: now.answer.ipi1,
+        br0: now.answer.bridge0,
+        br1: now.answer.bridge1,
     }
 }

@@ -1,4 +1,4 @@
-// The times of a capture: which mark ends a time, and the lines that the next one is compared with.
+// The times of a capture: which mark ends a time, and the lines that the next one is compared with. The time under way is None before the first mark.
 #![tactic(auto)]
 
 ghost use Rattle.std.specs.Prelude.{◌≡◌};
@@ -7,80 +7,56 @@ ghost use Rattle.capture_times.specs.Times as times;
 use capture_commands::Event;
 use capture_dump::{Lines, Time};
 
-// The time under way, if a mark has come.
-#[derive(Clone, Copy)]
-pub struct Times {
-    pub marked: bool,
-    pub time: Time,
+// The time that ends with a mark, if it does.
+#[tactic(auto, unfolding(crate::specs::Times::ended_at))]
+fn ended_at(time: Option<Time>, n: u64) -> Option<Time>
+    ensures { result ≡ times.ended_at time n }
+{
+    match time {
+        Some(t) if t.time < n => time,
+        _ => None,
+    }
 }
 
-// Whether a time ends.
-pub fn ends(t: Times, e: Event) -> bool
-    ensures { result ≡ times.ends_of t e }
+// The time that ends with what a token calls for, if it does.
+#[tactic(auto, unfolding(crate::specs::Times::ended_of))]
+pub fn ended(time: Option<Time>, e: Event) -> Option<Time>
+    ensures { result ≡ times.ended_of time e }
 {
     match e {
-        Event::Nothing => false,
-        Event::Mark(n) => {
-            let time = t.time;
-            t.marked & (time.time < n)
-        }
-        Event::Change {
-            inputs: _,
-            level: _,
-        } => false,
+        Event::Mark(n) => ended_at(time, n),
+        Event::Nothing | Event::Change { .. } => None,
     }
 }
 
-fn new_time(n: u64, first: bool, before: Lines) -> Times
-    ensures { result ≡ times.new_time n first before }
+fn new_time(time: u64, first: bool, before: Lines) -> Time
+    ensures { result ≡ times.new_time time first before }
 {
-    Times {
-        marked: true,
-        time: Time {
-            time: n,
-            first: first,
-            before: before,
-        },
+    Time {
+        time,
+        first,
+        before,
     }
 }
 
-fn marked(t: Times, now: Lines, n: u64) -> Times
-    ensures { result ≡ times.marked_of t now n }
+#[tactic(auto, unfolding(crate::specs::Times::marked_of))]
+fn marked(time: Option<Time>, now: Lines, n: u64) -> Time
+    ensures { result ≡ times.marked_of time now n }
 {
-    if t.marked {
-        let time = t.time;
-        if time.time < n {
-            return new_time(n, false, now);
-        }
-        return t;
+    match time {
+        None => new_time(n, true, now),
+        Some(t) if t.time < n => new_time(n, false, now),
+        Some(t) => t,
     }
-    new_time(n, true, now)
 }
 
 // The time under way after what a token calls for.
-pub fn times_after(t: Times, now: Lines, e: Event) -> Times
-    ensures { result ≡ times.times_of t now e }
+#[tactic(auto, unfolding(crate::specs::Times::times_of))]
+pub fn times_after(time: Option<Time>, now: Lines, e: Event) -> Option<Time>
+    ensures { result ≡ times.times_of time now e }
 {
     match e {
-        Event::Nothing => t,
-        Event::Mark(n) => marked(t, now, n),
-        Event::Change {
-            inputs: _,
-            level: _,
-        } => t,
-    }
-}
-
-// Before the first mark.
-pub fn start(now: Lines) -> Times
-    ensures { result ≡ times.times_start now }
-{
-    Times {
-        marked: false,
-        time: Time {
-            time: 0,
-            first: true,
-            before: now,
-        },
+        Event::Mark(n) => Some(marked(time, now, n)),
+        Event::Nothing | Event::Change { .. } => time,
     }
 }

@@ -2,7 +2,8 @@
 --   blank     white space                            tokens_from   the tokens of a text with their places, in order
 --   token_of   the next token's place                 is_end        the token that ends a section
 --   words_of   the tokens alone, for lists of words   index_of      where a text stands in a list of words
-use Rattle.std.specs.Prelude.{ℕ, suc, ◌+◌, Bool, false, cond, ◌||◌, List, [], ◌∷◌, map, eqb, ltb, length, drop}
+use Rattle.std.specs.Prelude.{ℕ, suc, ◌+◌, Bool, false, cond, ◌||◌, Option, Some, None, is_some, List, [], ◌∷◌, map, eqb, length, drop}
+use Rattle.std.specs.Option.{option_map}
 use Rattle.text.specs.Ascii.{ascii}
 use Rattle.text.specs.declared.Span.{Span}
 use Rattle.text.specs.Tokens.{token_by, same_of}
@@ -56,13 +57,13 @@ token_of s from = token_by blank blank s from
 abbrev pub words_of : List ℕ → List (List ℕ)
 words_of s = map (λ (t : Token). t.text) (tokens_from s 0)
 
--- How many words stand before the first that equals a text: all of them where none does.
-unfoldable pub index_of : List (List ℕ) → List ℕ → ℕ
-index_of [] t = 0
-index_of (w ∷ ws) t = cond (same_of t w) 0 (suc (index_of ws t))
+-- How many words stand before the first that equals a text, if one does.
+unfoldable pub index_of : List (List ℕ) → List ℕ → Option ℕ
+index_of [] t = None
+index_of (w ∷ ws) t = cond (same_of t w) (Some 0) (option_map suc (index_of ws t))
 
 abbrev pub one_of : List (List ℕ) → List ℕ → Bool
-one_of ws t = ltb (index_of ws t) (length ws)
+one_of ws t = is_some (index_of ws t)
 
 -- ---- the end of a section
 

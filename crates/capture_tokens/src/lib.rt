@@ -16,31 +16,28 @@ pub fn token(s: &[u8], from: usize) -> Span
     text::token_by(s, from, WHITE, WHITE)
 }
 
-// How many words of a list stand before the first that equals a text.
-pub fn index_of(list: &[u8], t: &[u8]) -> usize
+// The place of the first word of a list that equals a text, counted in words.
+pub fn index_of(list: &[u8], t: &[u8]) -> Option<usize>
     ensures { result ≡ index_of (words_of list.now) t.now }
 {
-    let mut n = 0;
     let mut at = 0;
-    while at < list.len() {
+    // There are no more words than bytes.
+    for n in 0..list.len() {
         let span = token(list, at);
-        let start = span.start;
-        let end = span.end;
-        if start == end {
-            return n;
+        if span.start == span.end {
+            return None;
         }
-        if text::same(t, &list[start..end]) {
-            return n;
+        if t == &list[span.start..span.end] {
+            return Some(n);
         }
-        n += 1;
-        at = end;
+        at = span.end;
     }
-    n
+    None
 }
 
 // Whether a token ends a section.
 pub fn is_end(t: &[u8]) -> bool
     ensures { result ≡ is_end t.now }
 {
-    text::same(t, b"$end")
+    t == b"$end".as_slice()
 }

@@ -1,77 +1,100 @@
 -- The clash of two writes: the bits as the code computes them, and that a list may be put in any order exactly if no two of its writes clash.
-use Prim.Native.Nat.{ℕ}
+use Prim.Native.Nat.{ℕ, ◌*◌, ◌%◌, ◌-◌, ◌^◌, ◌<◌}
+use Rattle.std.specs.Prelude.{Option, Some, None}
 use mathlib.Core.Path.{◌≡◌, refl, sym, ◌∙◌}
 use mathlib.Core.Bool.{Bool, true, false, cond, xor, ◌&&◌}
 use native.Mathlib.Omega.{arith}
 use lib.Dec.{eqb, ltb}
+use lib.Pow.{pow-lt}
+use Rattle.std.proofs.Math.Nat.{mod-eq_of_lt, one-mul}
 use borrow.Author.Tests.{eq-eqb, eqb-true}
 use Rattle.bits.specs.Bits.{bit, word}
-use Rattle.bits.proofs.Words.{bit_word, word_cong}
-use Rattle.bits.proofs.Operations.{word_low}
+use Rattle.bits.proofs.Taut.{taut}
+use Rattle.bits.proofs.Words.{bit_word, is_word, word_cong}
+use Rattle.bits.proofs.Operations.{bit_ones, word_low}
 use Rattle.order.specs.Cells as order
 use Rattle.order.proofs.Clash as order-clash
 use Rattle.order.proofs.Places.{width_at_most}
 use Rattle.steps.specs.declared.Step.{Step}
 use Rattle.device.specs.declared.Device.{Device}
 use Rattle.reorder.specs.declared.Cell.{Cell}
+use Rattle.access.specs.declared.Effect.{Effect}
 use Rattle.reorder.specs.declared.Given.{Given}
 use Rattle.reorder.specs.declared.Given.TheVariants.{NotListed, Nothing, Bits}
 use Rattle.reorder.specs.Cells.{row_of, same, width}
 use Rattle.reorder.specs.Writes.{effect_of, given_in}
 use Rattle.reorder.specs.Rule.{Ordered}
 use Rattle.reorder.proofs.Cells.{device_names, names, placed}
-use Rattle.clashes.specs.declared.Clash.TheVariants.{Free, On}
+use Rattle.clashes.specs.declared.Clash.{Clash}
 use Rattle.clashes.specs.Clash.{ReorderRule, clash_bits, clash_in, clash_of}
 
 -- ---- the bits of a clash
 
-module _ (a b : Cell) (m n x y : ℕ) where
+module _ (e f : Effect Cell) where
   -- on one cell: in both masks, with opposite values, below the width, which is at most 64
-  pub clash_bits_lem : same a b ≡ true
-      → clash_bits (Bits a m x) (Bits b n y)
-      ≡ word 64 (λ i. bit m i && bit n i && xor (bit x i) (bit y i) && bit (word 64 (λ j. ltb j (width a))) i)
+  pub clash_bits_lem : same e.cell f.cell ≡ true
+      → clash_bits (Bits e) (Bits f)
+      ≡ word 64 (λ i. bit e.mask i && bit f.mask i && xor (bit e.bits i) (bit f.bits i) && bit (word 64 (λ j. ltb j (width e.cell))) i)
   unfolding clash_bits order.clash
   clash_bits_lem s =
-      let e = order.effect a m x in
-      let f = order.effect b n y in
+      let g = order.effect e.cell e.mask e.bits in
+      let h = order.effect f.cell f.mask f.bits in
       rw s
       (sym
-      (word_cong 64 (λ i h. rw (bit_word 64 _ i h))
-      ∙ word_low (width a) 64 (order.clash_at e f) (width_at_most row_of names placed 64 refl a)))
+      (word_cong 64 (λ i l. rw (bit_word 64 _ i l))
+      ∙ word_low (width e.cell) 64 (order.clash_at g h) (width_at_most row_of names placed 64 refl e.cell)))
 
-  pub no_clash : same a b ≡ false → clash_bits (Bits a m x) (Bits b n y) ≡ 0
+  pub no_clash : same e.cell f.cell ≡ false → clash_bits (Bits e) (Bits f) ≡ 0
   unfolding clash_bits order.clash
   no_clash s = rw s
 
+-- the bits below a width
+pub below : (w : ℕ) → w < 64 → 1 * 2 ^ w % 18446744073709551616 - 1 ≡ word 64 (λ i. ltb i w)
+below w h =
+    let fits : 2 ^ w < 18446744073709551616 = pow-lt {i = w} {j = 64} h in
+    rw (one-mul (2 ^ w), mod-eq_of_lt fits) (is_word 64 (omega (arith, fits)) (λ i l. bit_ones w i))
+
+-- a cell stands where another does exactly if it is that cell
+and_assoc : (x y z : Bool) → ((x && y) && z) ≡ (x && (y && z))
+and_assoc = taut 3 _ _ tt
+
+pub same_place : (a b : Cell) (e : Bool)
+    → e ≡ (eqb (row_of a).block (row_of b).block && (eqb (row_of a).number (row_of b).number && eqb (row_of a).index (row_of b).index))
+    → same a b ≡ e
+same_place a b e q =
+    let p = row_of a in
+    let r = row_of b in
+    and_assoc (eqb p.block r.block) (eqb p.number r.number) (eqb p.index r.index) ∙ sym q
+
 -- ---- the rule
 
-on_free : {A : Type 0} (c : Cell) (bits : ℕ) → On c bits ≡ Free → A
-on_free c bits e = let z : ◌≡◌ {A = ℕ} 0 1 = cc in absurd (omega arith)
+none_some : {A : Type 0} (c : Clash) → Some c ≡ None → A
+none_some c e = let z : ◌≡◌ {A = ℕ} 0 1 = cc in absurd (omega arith)
 
-free_of : (g h : Given) → order.clash width same (effect_of g) (effect_of h) ≡ 0 → clash_in g (clash_bits g h) ≡ Free
+free_of : (g h : Given) → order.clash width same (effect_of g) (effect_of h) ≡ 0 → clash_in g (clash_bits g h) ≡ None
 unfolding clash_bits
 free_of NotListed h e = refl
 free_of Nothing h e = refl
-free_of (Bits c m b) h e = rw (eq-eqb _ 0 e)
+free_of (Bits c) h e = rw (eq-eqb _ 0 e)
 
-none_of : (g h : Given) → clash_in g (clash_bits g h) ≡ Free → order.clash width same (effect_of g) (effect_of h) ≡ 0
+none_of : (g h : Given) → clash_in g (clash_bits g h) ≡ None → order.clash width same (effect_of g) (effect_of h) ≡ 0
 unfolding clash_bits order.clash
 none_of NotListed h e = refl
 none_of Nothing h e = refl
-none_of (Bits c m b) h e = by (order.clash width same (effect_of (Bits c m b)) (effect_of h)) e
+none_of (Bits c) h e = by (order.clash width same (effect_of (Bits c)) (effect_of h)) e
   where
-    by : (bits : ℕ) → cond (eqb bits 0) Free (On c bits) ≡ Free → bits ≡ 0
+    by : (bits : ℕ) → clash_in (Bits c) bits ≡ None → bits ≡ 0
     by bits q = test (eqb bits 0) refl q
       where
-        test : (t : Bool) → eqb bits 0 ≡ t → cond t Free (On c bits) ≡ Free → bits ≡ 0
+        test : (t : Bool) → eqb bits 0 ≡ t → cond {A = Option Clash} t None (Some (record { cell = c.cell; bits = bits })) ≡ None → bits ≡ 0
         test true p q = eqb-true bits 0 p
-        test false p q = on_free c bits q
+        test false p q = none_some _ q
 
-pub clash_itself : (o : Bool) (s : Step) → clash_of o s s ≡ Free
+pub clash_itself : (o : Bool) (s : Step) → clash_of o s s ≡ None
 unfolding clash_of
 clash_itself o s = let g = given_in o s in free_of g g (order-clash.clash_itself width device_names (effect_of g))
 
-pub clash_turned : (o : Bool) (s t : Step) → clash_of o s t ≡ Free → clash_of o t s ≡ Free
+pub clash_turned : (o : Bool) (s t : Step) → clash_of o s t ≡ None → clash_of o t s ≡ None
 unfolding clash_of
 clash_turned o s t e =
     let g = given_in o s in

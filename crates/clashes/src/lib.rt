@@ -6,48 +6,52 @@ ghost use Rattle.std.specs.Bool.{xor};
 ghost use Rattle.bits.specs.Bits.{bit, word};
 ghost use Rattle.reorder.specs.Cells.{bridge_row, core_row, node_row};
 ghost use Rattle.clashes.specs.Clash.{clash_bits, clash_in, clash_of};
-ghost use Rattle.clashes.specs.Private.{spot_in, spot_of};
+ghost use Rattle.clashes.specs.Private.{place_of, spot_in, spot_of};
 
-use reorder::{Cell, Given};
+use reorder::{Cell, Effect, Given};
 use steps::Step;
 
+// The cell and the bits to which two writes give opposite values.
 #[derive(Clone, Copy)]
-pub enum Clash {
-    Free,
-    On { cell: Cell, bits: u64 },
+pub struct Clash {
+    pub cell: Cell,
+    pub bits: u64,
 }
 
 // ---- where a cell stands and its width, a line for each as in crates/reorder/specs/Cells.antt
 
-#[derive(Clone, Copy)]
-struct Spot {
+// By numbers and no `==` of cells: the table that the order rule is proved over compares by them (`row_of` in crates/reorder/specs/Cells.antt).
+#[derive(Clone, Copy, PartialEq, Eq)]
+struct Place {
     block: u64,
     number: u64,
     index: u64,
+}
+
+#[derive(Clone, Copy)]
+struct Spot {
+    place: Place,
     width: u64,
 }
 
-fn one(block: u64, number: u64, bits: u64) -> Spot
-    ensures { result ≡ record { block = block; number = number; index = 0; width = bits } }
+// A cell of its own.
+fn one(block: u64, number: u64, width: u64) -> Spot
+    ensures { result ≡ record { place = record { block = block; number = number; index = 0 }; width = width } }
 {
-    Spot {
-        block: block,
-        number: number,
-        index: 0,
-        width: bits,
-    }
+    one_of(block, number, 0, 1, width)
 }
 
+// One of several cells: beyond their count there are no bits.
 fn one_of(block: u64, number: u64, index: u64, count: u64, bits: u64) -> Spot
-    ensures { result ≡ record { block = block; number = number; index = index; width = cond (ltb index count) bits 0 } }
+    ensures { result ≡ record { place = record { block = block; number = number; index = index }; width = cond (ltb index count) bits 0 } }
 {
+    let place = Place {
+        block,
+        number,
+        index,
+    };
     let width = if index < count { bits } else { 0 };
-    Spot {
-        block: block,
-        number: number,
-        index: index,
-        width: width,
-    }
+    Spot { place, width }
 }
 
 fn core_spot(block: u64, cell: ipi_registers::Cell) -> Spot
@@ -91,18 +95,6 @@ fn spot_of(cell: Cell) -> Spot
     }
 }
 
-fn same_spot(s: Spot, t: Spot) -> bool
-    ensures { result ≡ ((eqb s.block t.block && eqb s.number t.number) && eqb s.index t.index) }
-{
-    if s.block != t.block {
-        return false;
-    }
-    if s.number != t.number {
-        return false;
-    }
-    s.index == t.index
-}
-
 // ---- the bits in which two writes clash
 
 // The bits below a width.
@@ -110,65 +102,54 @@ fn bits_below(width: u64) -> u64
     ensures { result ≡ word 64 (λ i. ltb i width) }
 {
     if width < 64 {
-        bits::put(0, width, true) - 1
+        (1 << width) - 1
     } else {
-        0xffff_ffff_ffff_ffff
+        u64::MAX
     }
 }
 
-// The bits that are in both masks with opposite values, below a width.
-fn opposite(m: u64, n: u64, a: u64, b: u64, low: u64) -> u64
-    ensures { result ≡ word 64 (λ i. bit m i && bit n i && xor (bit a i) (bit b i) && bit low i) }
+// The bits of `low` that are in both masks with opposite values.
+fn opposite(e: Effect, f: Effect, low: u64) -> u64
+    ensures { result ≡ word 64 (λ i. bit e.mask i && bit f.mask i && xor (bit e.bits i) (bit f.bits i) && bit low i) }
 {
-    m & n & (a ^ b) & low
+    e.mask & f.mask & (e.bits ^ f.bits) & low
 }
 
-// The bits of two cells in which masks and values clash.
-fn clash_bits(a: Cell, b: Cell, m: u64, n: u64, x: u64, y: u64) -> u64
-    ensures { result ≡ clash_bits (Given.Bits a m x) (Given.Bits b n y) }
+// The bits of the first cell in which two effects clash, if both are on it.
+fn clash_bits(e: Effect, f: Effect) -> u64
+    ensures { result ≡ clash_bits (Given.Bits e) (Given.Bits f) }
 {
-    let s = spot_of(a);
-    let t = spot_of(b);
-    if same_spot(s, t) {
-        return opposite(m, n, x, y, bits_below(s.width));
-    }
-    0
-}
-
-fn clash_in(cell: Cell, bits: u64) -> Clash
-    ensures { result ≡ cond (eqb bits 0) Clash.Free (Clash.On cell bits) }
-{
-    if bits == 0 {
-        return Clash::Free;
-    }
-    Clash::On {
-        cell: cell,
-        bits: bits,
+    let spot = spot_of(e.cell);
+    if spot.place == spot_of(f.cell).place {
+        opposite(e, f, bits_below(spot.width))
+    } else {
+        0
     }
 }
 
-fn clash_with(cell: Cell, mask: u64, bits: u64, given: Given) -> Clash
-    ensures { result ≡ clash_in (Given.Bits cell mask bits) (clash_bits (Given.Bits cell mask bits) given) }
+#[tactic(auto, unfolding(crate::specs::Clash::clash_bits, order::specs::Cells::clash))]
+fn clash_with(e: Effect, given: Given) -> Option<Clash>
+    ensures { result ≡ clash_in (Given.Bits e) (clash_bits (Given.Bits e) given) }
 {
     match given {
-        Given::NotListed => Clash::Free,
-        Given::Nothing => Clash::Free,
-        Given::Bits {
-            cell: other,
-            mask: n,
-            bits: y,
-        } => clash_in(cell, clash_bits(cell, other, mask, n, bits, y)),
+        Given::NotListed | Given::Nothing => None,
+        Given::Bits(f) => {
+            let bits = clash_bits(e, f);
+            if bits == 0 {
+                return None;
+            }
+            Some(Clash { cell: e.cell, bits })
+        }
     }
 }
 
 // Where two writes clash: the cell, and the bits to which they give opposite values.
-pub fn find_clash(second_open: bool, a: Step, b: Step) -> Clash
+#[tactic(auto, unfolding(crate::specs::Clash::clash_of))]
+pub fn find_clash(second_open: bool, a: Step, b: Step) -> Option<Clash>
     ensures { result ≡ clash_of second_open a b }
 {
-    let other = reorder::bits_given(second_open, b);
     match reorder::bits_given(second_open, a) {
-        Given::NotListed => Clash::Free,
-        Given::Nothing => Clash::Free,
-        Given::Bits { cell, mask, bits } => clash_with(cell, mask, bits, other),
+        Given::NotListed | Given::Nothing => None,
+        Given::Bits(e) => clash_with(e, reorder::bits_given(second_open, b)),
     }
 }

@@ -7,14 +7,12 @@ use lib.Dec.{ltb}
 use lib.ListN.{get_or, length}
 use Rattle.bits.specs.Bits.{differ, held, merge}
 use Rattle.bits.specs.Writes.{moved}
+use Rattle.bits.specs.declared.After.{After}
 use Rattle.bits.proofs.Arrays.{set_differs}
-use Rattle.bits.proofs.Cond.{cond_ap}
 use Rattle.bits.proofs.Writes.{differ_held, differ_same}
 use Rattle.ipi_registers.specs.declared.Cell.{Cell}
 use Rattle.ipi_registers.specs.declared.Cell.TheVariants.{Status, Enable, MailBox}
-use Rattle.cores.specs.declared.Applied.{Applied}
 use Rattle.cores.specs.declared.Core.{Core}
-use Rattle.cores.specs.Cells.{with_enable, with_status}
 use Rattle.cores.specs.Core.{on}
 use Rattle.cores.specs.Moved.{cell_of, with_moved}
 
@@ -32,8 +30,8 @@ cell_moved c h (MailBox i) m v =
     ap (λ (w : ℕ). cond (ltb i 4) w 0) (sym (differ_held 64 64 (get_or c.mail i 0) (merge 64 (get_or c.mail i 0) m v) (omega arith)))
     ∙ set_differs 64 4 (held 64) c.mail h i (merge 64 (get_or c.mail i 0) m v)
 
-abbrev with : Core → ℕ → Applied
-with c moved = record { core = c; moved = moved }
+abbrev with : Core → ℕ → After Core
+with c moved = record { state = c; moved = moved }
 
 -- an effect that is or is not a core's own
 own_moved : (c : Core) → length c.mail ≡ 4 → (cell : Cell) (m v : ℕ) (own : Bool)
@@ -45,11 +43,8 @@ pub own_applied : (c : Core) → length c.mail ≡ 4 → (cell : Cell) (m v : �
     → with k (cond own (carried c cell m v) 0) ≡ with_moved c (cond own (on c cell m v) c) cell
 own_applied c h cell m v own e = ap (λ (k : Core). with k (cond own (carried c cell m v) 0)) e ∙ own_moved c h cell m v own
 
--- an effect on Status or Enable that is or is not a core's own, as the code makes it
-pub status_applied : (c : Core) (cell : Cell) (m v : ℕ) (own : Bool) → length c.mail ≡ 4 → cell ≡ Status
-    → with_moved c (cond own (on c cell m v) c) cell ≡ with (with_status c (cond own (merge 32 c.status m v) c.status)) (cond own (moved 32 c.status m v) 0)
-status_applied c cell m v own h e = rw e (sym (own_applied c h Status m v own (cond_ap (with_status c) own (merge 32 c.status m v) c.status)))
-
-pub enable_applied : (c : Core) (cell : Cell) (m v : ℕ) (own : Bool) → length c.mail ≡ 4 → cell ≡ Enable
-    → with_moved c (cond own (on c cell m v) c) cell ≡ with (with_enable c (cond own (merge 32 c.enable m v) c.enable)) (cond own (moved 32 c.enable m v) 0)
-enable_applied c cell m v own h e = rw e (sym (own_applied c h Enable m v own (cond_ap (with_enable c) own (merge 32 c.enable m v) c.enable)))
+-- the same, of what the code makes: a core k, and the bits `moved` of the n that the cell would move
+pub taken : (c : Core) → length c.mail ≡ 4 → (cell : Cell) (m v : ℕ) (own : Bool) {k : Core} {n moved : ℕ}
+    → k ≡ cond own (on c cell m v) c → n ≡ carried c cell m v → moved ≡ cond own n 0
+    → with k moved ≡ with_moved c (cond own (on c cell m v) c) cell
+taken c h cell m v own e f g = rw (g, f) (own_applied c h cell m v own e)

@@ -8,7 +8,7 @@ use Rattle.ipi_registers.specs.declared.Register.{Register}
 use Rattle.ipi_registers.specs.declared.Register.TheVariants as register
 use Rattle.ipi_registers.specs.declared.Cell.{Cell}
 use Rattle.ipi_registers.specs.declared.Cell.TheVariants.{Status, Enable, MailBox}
-use Rattle.ipi_registers.specs.declared.Effect.{Effect}
+use Rattle.access.specs.declared.Effect.{Effect}
 
 -- a mailbox at width 8, and its low half at width 4
 abbrev pub mail_box_read : ℕ → ℕ → ℕ
@@ -30,7 +30,7 @@ on c Status m b = with_status c (merge 32 c.status m b)
 on c Enable m b = with_enable c (merge 32 c.enable m b)
 on c (MailBox i) m b = with_mail c (set c.mail i (merge 64 (get_or c.mail i 0) m b))
 
-unfoldable pub applied_of : Core → Effect → Core
+unfoldable pub applied_of : Core → Effect Cell → Core
 applied_of c e = on c e.cell e.mask e.bits
 
 -- some bit is 1 in both Status and Enable

@@ -2,8 +2,8 @@
 --   cell_of   the cell as a word     with_moved   a core after a write, with the bits in which that cell differs before and after
 use Rattle.std.specs.Prelude.{ℕ, get_or}
 use Rattle.bits.specs.Bits.{differ, held}
+use Rattle.bits.specs.declared.After.{After}
 use Rattle.cores.specs.declared.Core.{Core}
-use Rattle.cores.specs.declared.Applied.{Applied}
 use Rattle.ipi_registers.specs.declared.Cell.{Cell}
 use Rattle.ipi_registers.specs.declared.Cell.TheVariants.{Status, Enable, MailBox}
 
@@ -13,5 +13,5 @@ cell_of c Status = held 32 c.status
 cell_of c Enable = held 32 c.enable
 cell_of c (MailBox i) = held 64 (get_or c.mail i 0)
 
-abbrev pub with_moved : Core → Core → Cell → Applied
-with_moved before after cell = record { core = after; moved = differ 64 (cell_of before cell) (cell_of after cell) }
+abbrev pub with_moved : Core → Core → Cell → After Core
+with_moved before after cell = record { state = after; moved = differ 64 (cell_of before cell) (cell_of after cell) }

@@ -5,6 +5,7 @@ ghost use Rattle.std.specs.Prelude.{◌≡◌, cond, get_or, set};
 ghost use Rattle.cores.specs.Core.{applied_of, line_of, mail_box_read, read_of};
 ghost use Rattle.cores.specs.Moved.{with_moved};
 
+use bits::After;
 use ipi_registers::{Cell, Effect, Register};
 
 #[derive(Clone, Copy)]
@@ -14,14 +15,8 @@ pub struct Core {
     pub mail: [u64; 4],
 }
 
-// A core after a write, and the bits that the write moved (request Q-8).
-#[derive(Clone, Copy)]
-pub struct Applied {
-    pub core: Core,
-    pub moved: u64,
-}
-
 // Mailboxes are chosen word by word and not by an index: an index would have the array written to memory and read back at every step.
+#[tactic(auto, using(crate::proofs::Four::get_four))]
 fn mailbox(all: [u64; 4], i: u64) -> u64
     ensures { result ≡ get_or all i 0 }
 {
@@ -31,6 +26,7 @@ fn mailbox(all: [u64; 4], i: u64) -> u64
     bits::choose(i == 0, all[0], from1)
 }
 
+#[tactic(auto, using(crate::proofs::Four::set_four))]
 fn put_mailbox(all: [u64; 4], i: u64, v: u64) -> [u64; 4]
     ensures { result ≡ set all i v }
 {
@@ -52,73 +48,55 @@ fn mailbox_read(word: u64, width: u64) -> u64
     }
 }
 
-fn wide(x: u32) -> u64
-    ensures { result ≡ x }
-{
-    x as u64
-}
-
 impl Core {
     // What a register reads as. No read of Set, Clear or a send is accepted.
+    #[tactic(auto, unfolding(crate::specs::Core::read_of))]
     pub fn read(self, register: Register, width: u64) -> u64
         ensures { result ≡ read_of self register width }
     {
-        let mail = self.mail;
         match register {
-            Register::Status => wide(self.status),
-            Register::Enable => wide(self.enable),
-            Register::Set => 0,
-            Register::Clear => 0,
-            Register::MailBox(i) => mailbox_read(mailbox(mail, i), width),
-            Register::MailBoxHigh(i) => mailbox(mail, i) / 0x1_0000_0000,
-            Register::IpiSend => 0,
-            Register::MailSend => 0,
+            Register::Status => u64::from(self.status),
+            Register::Enable => u64::from(self.enable),
+            Register::MailBox(i) => mailbox_read(mailbox(self.mail, i), width),
+            Register::MailBoxHigh(i) => mailbox(self.mail, i) / 0x1_0000_0000,
+            Register::Set | Register::Clear | Register::IpiSend | Register::MailSend => 0,
         }
     }
 
     // The core after an effect, where the effect is its own, and the bits of the cell that then differ. Of a mailbox that is not there, none does.
-    #[tactic(auto, using(crate::proofs::Moved::status_applied, crate::proofs::Moved::enable_applied), unfolding(crate::specs::Core::applied_of))]
-    pub fn applied(mut self, own: bool, effect: Effect) -> Applied
+    pub fn applied(mut self, own: bool, effect: Effect) -> After<Core>
         ensures { result ≡ with_moved self (cond own (applied_of self effect) self) effect.cell }
     {
-        let mail = self.mail;
-        let cell = effect.cell;
-        let mask = effect.mask;
-        let bits = effect.bits;
-        match cell {
+        let Effect { cell, mask, bits } = effect;
+        let moved = match cell {
             Cell::Status => {
-                let new = bits::merge32(self.status, mask, bits);
-                self.status = bits::choose32(own, new.word, self.status);
-                Applied {
-                    core: self,
-                    moved: bits::choose(own, new.moved, 0),
-                }
+                let new = bits::merge(self.status, mask, bits);
+                self.status = bits::choose(own, new.state, self.status);
+                new.moved
             }
             Cell::Enable => {
-                let new = bits::merge32(self.enable, mask, bits);
-                self.enable = bits::choose32(own, new.word, self.enable);
-                Applied {
-                    core: self,
-                    moved: bits::choose(own, new.moved, 0),
-                }
+                let new = bits::merge(self.enable, mask, bits);
+                self.enable = bits::choose(own, new.state, self.enable);
+                new.moved
             }
             Cell::MailBox(i) => {
-                let old = mailbox(mail, i);
+                let old = mailbox(self.mail, i);
                 let new = bits::merge(old, mask, bits);
-                let all = put_mailbox(mail, i, bits::choose(own, new.word, old));
-                self.mail = all;
-                Applied {
-                    core: self,
-                    moved: bits::choose(own, bits::choose(i < 4, new.moved, 0), 0),
-                }
+                self.mail = put_mailbox(self.mail, i, bits::choose(own, new.state, old));
+                bits::choose(i < 4, new.moved, 0)
             }
+        };
+        After {
+            state: self,
+            moved: bits::choose(own, moved, 0),
         }
     }
 
     // The interrupt line: some bit is 1 in both Status and Enable.
+    #[tactic(auto, unfolding(crate::specs::Core::line_of))]
     pub fn line(self) -> bool
         ensures { result ≡ line_of self }
     {
-        bits::common32(self.status, self.enable)
+        bits::common(self.status, self.enable)
     }
 }

@@ -6,21 +6,26 @@ use lib.Bits.{bit_or, or_zero_r}
 use lib.Dec.{eqb}
 use borrow.Table.Steps.{cases}
 use Rattle.bits.specs.Bits.{differ}
+use Rattle.bits.specs.declared.After.{After}
 use Rattle.bits.proofs.Cond.{cond_ap}
 use Rattle.bits.proofs.Writes.{differ_same}
 use Rattle.cores.specs.declared.Core.{Core}
-use Rattle.ipi_registers.specs.declared.Effect.{Effect}
+use Rattle.access.specs.declared.Effect.{Effect}
+use Rattle.ipi_registers.specs.declared.Cell.{Cell}
 use Rattle.ipi_registers.specs.declared.Register.{Register}
 use Rattle.cores.specs.Core.{applied_of, read_of}
 use Rattle.cores.specs.Moved.{cell_of}
 use Rattle.device.specs.declared.Class.TheVariants as class
 use Rattle.device.specs.declared.Device.{Device}
-use Rattle.device.specs.declared.Next.{Next}
 use Rattle.device.specs.Device.{core_of, with_core}
-use Rattle.device.specs.Private.{class_next, with_cores}
+use Rattle.device.specs.Private.{class_next}
 
-abbrev pub with : Device → ℕ → Next
-with d moved = record { device = d; moved = moved }
+abbrev pub with : Device → ℕ → After Device
+with d moved = record { state = d; moved = moved }
+
+-- both cores at once, as the code writes them
+abbrev with_cores : Device → Core → Core → Device
+with_cores d k l = record { core0 = k; core1 = l; tree = d.tree; second_open = d.second_open }
 
 module _ (d : Device) where
   pub read_chosen : (core : ℕ) (register : Register) (width : ℕ)
@@ -31,7 +36,7 @@ module _ (d : Device) where
   pub core_written : (core : ℕ) (k : Core) → core_of (with_core d core k) core ≡ k
   core_written core k = cases (eqb core 0) (λ q. rw q) (λ q. rw q)
 
-  module _ (core : ℕ) (e : Effect) where
+  module _ (core : ℕ) (e : Effect Cell) where
     abbrev new0 : Core
     new0 = cond (eqb core 0) (applied_of d.core0 e) d.core0
 

@@ -1,11 +1,11 @@
 -- The device and its lines (01, "The cells" and "The four lines"; requests Q-2 and Q-4).
 --   fresh_of, reset_of   the fresh state and the reset values     answered_of   what a step answers
-use Rattle.std.specs.Prelude.{ℕ, Bool, false, cond, eqb, replicate}
+use Rattle.std.specs.Prelude.{ℕ, Bool, false, cond, eqb, replicate, Result}
 use Rattle.cores.specs.declared.Core.{Core}
 use Rattle.cores.specs.Core as cores
 use Rattle.tree.specs.declared.Tree.{Tree}
 use Rattle.tree.specs.Tree as tree
-use Rattle.answers.specs.declared.Outcome.{Outcome}
+use Rattle.access.specs.declared.Refusal.{Refusal}
 use Rattle.device.specs.declared.Device.{Device}
 use Rattle.device.specs.declared.Stepped.{Stepped}
 
@@ -56,7 +56,7 @@ with_open d opened = record { core0 = d.core0; core1 = d.core1; tree = d.tree; s
 -- ---- the lines
 
 -- the outcome and the bits that were moved (request Q-8) beside the four lines, and those to the pins: core c and pin p as bit 4 * c + p
-unfoldable pub answered_of : Device → Outcome → ℕ → Stepped
+unfoldable pub answered_of : Device → Result ℕ Refusal → ℕ → Stepped
 answered_of d outcome moved = record {
   answer = record {
     outcome = outcome;

@@ -2,7 +2,7 @@
 -- `settled_of` of crates/bridge, of the bridge's own cells, and `settled_of` of crates/tree, of what the tree's blocks do to each other.
 --   outcome_of   what the step answers     next_of   the device after it     moved_word   the bits that it moved (request Q-8)
 --   step_of      all three, with the lines
-use Rattle.std.specs.Prelude.{ℕ}
+use Rattle.std.specs.Prelude.{ℕ, Result, Ok, Err}
 use Rattle.bits.specs.Bits.{differ}
 use Rattle.cores.specs.Core as cores
 use Rattle.cores.specs.Moved as cores-moved
@@ -12,23 +12,22 @@ use Rattle.tree.specs.Moved as tree-moved
 use Rattle.device.specs.declared.Device.{Device}
 use Rattle.steps.specs.declared.Step.{Step}
 use Rattle.device.specs.declared.Stepped.{Stepped}
-use Rattle.answers.specs.declared.Outcome.{Outcome}
-use Rattle.answers.specs.declared.Outcome.TheVariants.{Value, Refused}
+use Rattle.access.specs.declared.Refusal.{Refusal}
 use Rattle.steps.specs.declared.Plan.{Plan}
 use Rattle.steps.specs.declared.Plan.TheVariants.{Refuse, ReadCore, WriteCore, ReadTree, WriteTree, ChangeTree, Window, Reset}
 use Rattle.device.specs.Device.{answered_of, core_of, reset_of, with_core, with_open, with_tree}
 use Rattle.steps.specs.Decide.{decide_of}
 
 -- the read value of any accepted step other than a read or a search is 0
-unfoldable pub outcome_of : Device → Plan → Outcome
-outcome_of d (Refuse reason) = Refused reason
-outcome_of d (ReadCore register core width) = Value (cores.read_of (core_of d core) register width)
+unfoldable pub outcome_of : Device → Plan → Result ℕ Refusal
+outcome_of d (Refuse reason) = Err reason
+outcome_of d (ReadCore register core width) = Ok (cores.read_of (core_of d core) register width)
 outcome_of d (ReadTree read) = tree.read_of d.tree read  -- a search that finds no source is refused, with 9 (request Q-5)
-outcome_of d (WriteCore effect core) = Value 0
-outcome_of d (WriteTree write) = Value 0
-outcome_of d (ChangeTree change) = Value 0
-outcome_of d (Window opened) = Value 0
-outcome_of d Reset = Value 0
+outcome_of d (WriteCore effect core) = Ok 0
+outcome_of d (WriteTree write) = Ok 0
+outcome_of d (ChangeTree change) = Ok 0
+outcome_of d (Window opened) = Ok 0
+outcome_of d Reset = Ok 0
 
 -- a refused step, a read and a search leave the device as it is
 unfoldable pub next_of : Device → Plan → Device

@@ -1,56 +1,40 @@
-// Which clash of two writes an example names: the number of a cell, and the bits.
-use crate::show;
+// Which clash of two writes an example names.
 use clashes::Clash;
 use reorder::Cell;
-use std::io;
+use std::fmt;
+use std::fmt::{Display, Formatter};
 
-// No cell, core 0's Status, and any other.
-pub(crate) const FREE: u64 = 0;
-
-pub(crate) const STATUS: u64 = 1;
-
-const OTHER: u64 = 2;
-
-fn message_number(cell: ipi_registers::Cell) -> u64 {
-    match cell {
-        ipi_registers::Cell::Status => STATUS,
-        ipi_registers::Cell::Enable => OTHER,
-        ipi_registers::Cell::MailBox(_) => OTHER,
-    }
+// Core 0's Status, or another cell.
+#[derive(Clone, Copy, PartialEq, Eq)]
+pub(crate) enum Place {
+    Status,
+    Other,
 }
 
-fn cell_number(cell: Cell) -> u64 {
-    match cell {
-        Cell::Core0(message) => message_number(message),
-        Cell::Core1(_) => OTHER,
-        Cell::Bridge(_) => OTHER,
-        Cell::Gate => OTHER,
-        Cell::Node(_) => OTHER,
-    }
-}
+// The cell and the bits, or none where the writes are free to change places.
+#[derive(Clone, Copy, PartialEq, Eq)]
+pub(crate) struct Found(pub(crate) Option<(Place, u64)>);
 
-pub(crate) fn cell_of(clash: Clash) -> u64 {
-    match clash {
-        Clash::Free => FREE,
-        Clash::On { cell, bits: _ } => cell_number(cell),
-    }
-}
-
-pub(crate) fn bits_of(clash: Clash) -> u64 {
-    match clash {
-        Clash::Free => 0,
-        Clash::On { cell: _, bits } => bits,
-    }
-}
-
-pub(crate) fn show(rt: &impl Print, cell: u64, bits: u64) -> io::Result<()> {
-    if cell == FREE {
-        return show::text(rt, b"free");
-    }
-    if cell == STATUS {
-        show::text(rt, b"clash in core0.Status ")?;
+fn place_of(cell: Cell) -> Place {
+    if matches!(cell, Cell::Core0(ipi_registers::Cell::Status)) {
+        Place::Status
     } else {
-        show::text(rt, b"clash in another cell ")?;
+        Place::Other
     }
-    show::hex(rt, bits)
+}
+
+impl From<Option<Clash>> for Found {
+    fn from(clash: Option<Clash>) -> Found {
+        Found(clash.map(|Clash { cell, bits }| (place_of(cell), bits)))
+    }
+}
+
+impl Display for Found {
+    fn fmt<W: fmt::Write>(&self, f: &mut Formatter<W>) -> fmt::Result {
+        match self.0 {
+            None => f.write_str("free"),
+            Some((Place::Status, bits)) => write!(f, "clash in core0.Status {bits:#x}"),
+            Some((Place::Other, bits)) => write!(f, "clash in another cell {bits:#x}"),
+        }
+    }
 }

@@ -7,17 +7,20 @@
 
 mod cells;
 mod clash;
+mod expected;
 mod kinds;
-mod names;
 mod run;
 mod show;
 
+use access::Refusal;
 use bridge_registers::{Chip, Register};
+use clash::{Found, Place};
 use kinds::{
     bridge_read, bridge_write, bus_read, bus_write, input, node_input, private_read, private_write,
     which, window,
 };
 use run::Run;
+use show::Orders;
 use std::io;
 
 // The bit of source 63.
@@ -42,256 +45,343 @@ const INTENCLR: u64 = 0x1fe0142c;
 const CORE_1_INT2: u64 = 0b100_0000_0000;
 
 // Addresses of the second window at which no register starts. A refused step leaves the device as it was, so the next follows at once.
-fn example_5(rt: &impl Print, run: Run) -> io::Result<Run> {
+fn example_5<P: Print>(run: Run<P>) -> io::Result<Run<P>> {
     run.fresh()
         .after(window(false))
-        .refuses_read(rt, 0x3ff01040, 4, 2)? // 5b
-        .refuses_write(rt, 0x3ff01040, 4, 0x00010005, 2)? // 5b
-        .refuses_read(rt, 0x3ff00420, 8, 2)? // 5c
-        .refuses_write(rt, 0x3ff00420, 8, GATE, 2)? // 5c
+        .refuses_read("5b 0x3ff01040 closed", 0x3ff01040, 4, Refusal::Register)?
+        .refuses_write(
+            "5b write 0x3ff01040 closed",
+            0x3ff01040,
+            4,
+            0x00010005,
+            Refusal::Register,
+        )?
+        .refuses_read("5c 0x3ff00420 closed", 0x3ff00420, 8, Refusal::Register)?
+        .refuses_write(
+            "5c write 0x3ff00420 closed",
+            0x3ff00420,
+            8,
+            GATE,
+            Refusal::Register,
+        )?
         .after(window(true))
-        .refuses_read(rt, 0x3ff00420, 8, 2)? // 5d
-        .refuses_write(rt, 0x3ff00420, 8, GATE, 2) // 5d
+        .refuses_read("5d 0x3ff00420 open", 0x3ff00420, 8, Refusal::Register)?
+        .refuses_write(
+            "5d write 0x3ff00420 open",
+            0x3ff00420,
+            8,
+            GATE,
+            Refusal::Register,
+        )
 }
 
-fn example_6(rt: &impl Print, run: Run) -> io::Result<Run> {
-    run.fresh().refuses(rt, private_read(2, 0x1000, 4), 1) // 6b
+fn example_6<P: Print>(run: Run<P>) -> io::Result<Run<P>> {
+    run.fresh().refuses(
+        "6b read by core 2",
+        private_read(2, 0x1000, 4),
+        Refusal::Core,
+    )
 }
 
 // Rights, widths, and values that fit the width or not.
-fn example_7(rt: &impl Print, run: Run) -> io::Result<Run> {
+fn example_7<P: Print>(run: Run<P>) -> io::Result<Run<P>> {
     run.fresh()
-        .refuses_write(rt, 0x1fe01000, 4, 1, 5)? // 7a
-        .refuses_read(rt, 0x1fe01008, 4, 5)? // 7b
-        .refuses_read(rt, 0x1fe01004, 8, 4)? // 7c
-        .refuses_write(rt, 0x1fe01004, 8, 1, 4)? // 7c
-        .refuses_read(rt, 0x1fe01124, 8, 4)? // 7d
-        .refuses_write(rt, 0x1fe01124, 8, 1, 4)? // 7d
-        .refuses_write(rt, 0x1fe01004, 4, 0x100000000, 6)? // 7e
-        .accepts(rt, bus_write(0x1fe01004, 4, 0xffffffff))? // 7f
-        .reads(rt, bus_read(0x1fe01004, 4), 0xffffffff) // 7f
+        .refuses_write("7a write 0x1fe01000, 4", 0x1fe01000, 4, 1, Refusal::Right)?
+        .refuses_read("7b read 0x1fe01008, 4", 0x1fe01008, 4, Refusal::Right)?
+        .refuses_read("7c read 0x1fe01004, 8", 0x1fe01004, 8, Refusal::Width)?
+        .refuses_write("7c write 0x1fe01004, 8", 0x1fe01004, 8, 1, Refusal::Width)?
+        .refuses_read("7d read 0x1fe01124, 8", 0x1fe01124, 8, Refusal::Width)?
+        .refuses_write("7d write 0x1fe01124, 8", 0x1fe01124, 8, 1, Refusal::Width)?
+        .refuses_write(
+            "7e write 0x1fe01004, 4 = 0x100000000",
+            0x1fe01004,
+            4,
+            0x100000000,
+            Refusal::Value,
+        )?
+        .accepts(
+            "7f write 0x1fe01004, 4 = 0xffffffff",
+            bus_write(0x1fe01004, 4, 0xffffffff),
+        )?
+        .reads("7f core 0 Enable", bus_read(0x1fe01004, 4), 0xffffffff)
 }
 
 // Source 63 reaches both outputs, and the gate keeps the lines low until it is open.
-fn example_8(rt: &impl Print, run: Run) -> io::Result<Run> {
+fn example_8<P: Print>(run: Run<P>) -> io::Result<Run<P>> {
     let gate = bus_write(0x1fe00424, 4, 0x00010000);
     run.fresh()
-        .writes(rt, Register::IntMask, 0x7fff_ffff_ffff_ffff)? // 8a
-        .writes(rt, Register::RouteEntry(63), 0xff)? // 8b
-        .shows(rt, Register::RouteEntry(63), 0x03)? // 8b
-        .accepts(rt, input(63, true))? // 8c
-        .shows(rt, Register::IntIrr, SOURCE_63)? // 8d
-        .shows(rt, Register::IntIsrChip0, SOURCE_63)? // 8e
-        .shows(rt, Register::IntIsrChip1, SOURCE_63)? // 8e
-        .raises(rt, gate, BRIDGE_LINES) // 8f
+        .writes(
+            "8a INT_MASK = 0x7fffffffffffffff",
+            Register::IntMask,
+            0x7fff_ffff_ffff_ffff,
+        )?
+        .writes("8b ROUTE_ENTRY 63 = 0xff", Register::RouteEntry(63), 0xff)?
+        .shows("8b ROUTE_ENTRY 63", Register::RouteEntry(63), 0x03)?
+        .accepts("8c input 63 high, lines low", input(63, true))?
+        .shows("8d INTIRR", Register::IntIrr, SOURCE_63)?
+        .shows("8e INTISR_CHIP0", Register::IntIsrChip0, SOURCE_63)?
+        .shows("8e INTISR_CHIP1", Register::IntIsrChip1, SOURCE_63)?
+        .raises("8f write 0x1fe00424, 4 = 0x00010000", gate, BRIDGE_LINES)
 }
 
-fn example_8_source_64(rt: &impl Print, run: Run) -> io::Result<Run> {
+fn example_8_source_64<P: Print>(run: Run<P>) -> io::Result<Run<P>> {
     let route = bridge_write(Register::RouteEntry(64), 3);
     let route_read = bridge_read(Register::RouteEntry(64));
     run.fresh()
-        .refuses(rt, route, 7)? // 8g
-        .refuses(rt, route_read, 7)? // 8g
-        .refuses(rt, input(64, true), 7) // 8g
+        .refuses("8g ROUTE_ENTRY 64 = 3", route, Refusal::Source)?
+        .refuses("8g ROUTE_ENTRY 64", route_read, Refusal::Source)?
+        .refuses("8g input 64 high", input(64, true), Refusal::Source)
 }
 
 // Source 3 in edge mode, after a rise of its input.
-fn risen(run: Run) -> Run {
+fn risen<P: Print>(run: Run<P>) -> Run<P> {
     run.fresh()
         .after(bridge_write(Register::IntEdge, 8))
         .after(input(3, true))
 }
 
 // INTCLR clears the latch of an edge source.
-fn example_9(rt: &impl Print, run: Run) -> io::Result<Run> {
+fn example_9<P: Print>(run: Run<P>) -> io::Result<Run<P>> {
     risen(run)
         .after(input(3, false))
-        .writes(rt, Register::IntClr, 8)? // 9b
-        .shows(rt, Register::IntIrr, 0) // 9b
+        .writes("9b INTCLR = 8", Register::IntClr, 8)?
+        .shows("9b INTIRR", Register::IntIrr, 0)
 }
 
 // A level source requests as long as it is driven.
-fn example_9_level(rt: &impl Print, run: Run) -> io::Result<Run> {
+fn example_9_level<P: Print>(run: Run<P>) -> io::Result<Run<P>> {
     run.fresh()
         .after(input(3, true))
-        .keeps_reads(rt, bridge_write(Register::IntClr, 8))? // 9c
-        .shows(rt, Register::IntIrr, 8) // 9c
+        .keeps_reads(
+            "9c level mode, input 3 high, INTCLR = 8",
+            bridge_write(Register::IntClr, 8),
+        )?
+        .shows("9c INTIRR", Register::IntIrr, 8)
 }
 
 // The drive is high already, so that a soft bit is no rise.
-fn example_10(rt: &impl Print, run: Run) -> io::Result<Run> {
+fn example_10<P: Print>(run: Run<P>) -> io::Result<Run<P>> {
     risen(run)
-        .writes(rt, Register::IntClr, 8)? // 10a
-        .shows(rt, Register::IntIrr, 0)? // 10a
-        .writes(rt, Register::SoftInt, 8)? // 10b
-        .shows(rt, Register::IntIrr, 0)? // 10b
-        .shows(rt, Register::SoftInt, 8) // 10b
+        .writes("10a INTCLR = 8", Register::IntClr, 8)?
+        .shows("10a INTIRR", Register::IntIrr, 0)?
+        .writes("10b SOFT_INT = 8", Register::SoftInt, 8)?
+        .shows("10b INTIRR", Register::IntIrr, 0)?
+        .shows("10b SOFT_INT", Register::SoftInt, 8)
 }
 
 // A source taken to level mode loses its latch (Q-1).
-fn example_11(rt: &impl Print, run: Run) -> io::Result<Run> {
+fn example_11<P: Print>(run: Run<P>) -> io::Result<Run<P>> {
     risen(run)
         .after(input(3, false))
-        .writes(rt, Register::IntEdge, 0)? // 11a
-        .shows(rt, Register::IntIrr, 0)? // 11a
-        .writes(rt, Register::IntEdge, 8)? // 11b
-        .shows(rt, Register::IntIrr, 0) // 11b
+        .writes("11a INTEDGE = 0", Register::IntEdge, 0)?
+        .shows("11a INTIRR", Register::IntIrr, 0)?
+        .writes("11b INTEDGE = 8", Register::IntEdge, 8)?
+        .shows("11b INTIRR, by Q-1", Register::IntIrr, 0)
 }
 
 // Core 0's Set and Clear of one bit.
-fn example_12_status(rt: &impl Print, run: Run) -> io::Result<Run> {
+fn example_12_status<P: Print>(run: Run<P>) -> io::Result<Run<P>> {
     let set = private_write(0, 0x1008, 4, 1);
     let clear = private_write(0, 0x100c, 4, 1);
     let status = private_read(0, 0x1000, 4);
     run.fresh()
-        .orders(rt, set, clear, false)? // 12b
-        .clashes(rt, set, clear, clash::STATUS, 1)? // 12b
+        .orders("12b Set of 1 and Clear of 1", set, clear, Orders::Differ)?
+        .clashes(
+            "12b Set of 1 and Clear of 1",
+            set,
+            clear,
+            Found(Some((Place::Status, 1))),
+        )?
         .after(set)
-        .accepts(rt, clear)? // 12b
-        .reads(rt, status, 0)? // 12b
+        .accepts("12b Set, then Clear", clear)?
+        .reads("12b core 0 Status", status, 0)?
         .fresh()
         .after(clear)
-        .accepts(rt, set)? // 12b
-        .reads(rt, status, 1) // 12b
+        .accepts("12b Clear, then Set", set)?
+        .reads("12b core 0 Status", status, 1)
 }
 
 // Bytes 0 to 2, and bytes 1 to 3, of one half: bytes 1 and 2 are equal.
-fn example_12_mail(rt: &impl Print, run: Run) -> io::Result<Run> {
+fn example_12_mail<P: Print>(run: Run<P>) -> io::Result<Run<P>> {
     let low = private_write(0, 0x1048, 8, 0xaabbccdd_4001001c);
     let high = private_write(1, 0x1048, 8, 0x11bbccee_0801001c);
     let mailbox = bus_read(0x1fe01138, 8);
     run.fresh()
-        .orders(rt, low, high, true)? // 12c
-        .clashes(rt, low, high, clash::FREE, 0)? // 12c
+        .orders("12c two mail sends", low, high, Orders::Agree)?
+        .clashes("12c two mail sends", low, high, Found(None))?
         .after(low)
-        .accepts(rt, high)? // 12c
-        .reads(rt, mailbox, 0x11bbccdd_00000000)? // 12c
+        .accepts("12c bytes 0 to 2, then 1 to 3", high)?
+        .reads("12c core 1 MailBox3", mailbox, 0x11bbccdd_00000000)?
         .fresh()
         .after(high)
-        .accepts(rt, low)? // 12c
-        .reads(rt, mailbox, 0x11bbccdd_00000000) // 12c
+        .accepts("12c bytes 1 to 3, then 0 to 2", low)?
+        .reads("12c core 1 MailBox3", mailbox, 0x11bbccdd_00000000)
 }
 
 // AUTO_CTRL0 keeps any word, and AUTO_CTRL1 only 0 (Q-6).
-fn example_13(rt: &impl Print, run: Run) -> io::Result<Run> {
+fn example_13<P: Print>(run: Run<P>) -> io::Result<Run<P>> {
     run.fresh()
-        .writes(rt, Register::AutoCtrl0, 0)? // 13a
-        .shows(rt, Register::AutoCtrl0, 0)? // 13a
-        .writes(rt, Register::AutoCtrl0, 1)? // 13b
-        .shows(rt, Register::AutoCtrl0, 1)? // 13b
-        .refuses(rt, bridge_write(Register::AutoCtrl1, 1), 8) // 13b
+        .writes("13a AUTO_CTRL0 = 0", Register::AutoCtrl0, 0)?
+        .shows("13a AUTO_CTRL0", Register::AutoCtrl0, 0)?
+        .writes("13b AUTO_CTRL0 = 1, by Q-6", Register::AutoCtrl0, 1)?
+        .shows("13b AUTO_CTRL0, by Q-6", Register::AutoCtrl0, 1)?
+        .refuses(
+            "13b AUTO_CTRL1 = 1, by Q-6",
+            bridge_write(Register::AutoCtrl1, 1),
+            Refusal::Distribution,
+        )
 }
 
 // A route of the node holds six bits, and 0x42 is INT2 of core 1.
-fn node_route(rt: &impl Print, run: Run) -> io::Result<Run> {
+fn node_route<P: Print>(run: Run<P>) -> io::Result<Run<P>> {
     run.fresh()
-        .accepts(rt, bus_write(ENTRY_10, 1, 0xff))?
-        .reads(rt, bus_read(ENTRY_10, 1), 0xf3)?
+        .accepts("8.2 Entry 10 = 0xff", bus_write(ENTRY_10, 1, 0xff))?
+        .reads("8.2 Entry 10", bus_read(ENTRY_10, 1), 0xf3)?
         .after(bus_write(ENTRY_10, 1, 0x42))
         .after(bus_write(0x1fe01428, 4, SOURCE_10))
-        .raises(rt, node_input(10, true), CORE_1_INT2)
+        .raises(
+            "8.2 Entry 10 = 0x42, Intenset, node input 10 high",
+            node_input(10, true),
+            CORE_1_INT2,
+        )
 }
 
 // Then Intenclr takes the enable; a level source that is driven still requests.
-fn node_level(rt: &impl Print, run: Run) -> io::Result<Run> {
-    run.accepts(rt, bus_write(INTENCLR, 4, SOURCE_10))?
-        .reads(rt, bus_read(0x1fe01424, 4), 0)?
-        .reads(rt, bus_read(INTISR, 4), SOURCE_10)
+fn node_level<P: Print>(run: Run<P>) -> io::Result<Run<P>> {
+    run.accepts("8.2 Intenclr", bus_write(INTENCLR, 4, SOURCE_10))?
+        .reads("8.2 Inten", bus_read(0x1fe01424, 4), 0)?
+        .reads("8.2 level mode, Intisr", bus_read(INTISR, 4), SOURCE_10)
 }
 
 // An edge source requests until Intenclr, enabled or not.
-fn node_edge(rt: &impl Print, run: Run) -> io::Result<Run> {
+fn node_edge<P: Print>(run: Run<P>) -> io::Result<Run<P>> {
     run.fresh()
         .after(bus_write(0x1fe01434, 4, SOURCE_10))
         .after(node_input(10, true))
         .after(node_input(10, false))
-        .reads(rt, bus_read(INTISR, 4), SOURCE_10)?
-        .accepts(rt, bus_write(INTENCLR, 4, SOURCE_10))?
-        .reads(rt, bus_read(INTISR, 4), 0)
+        .reads(
+            "8.2 edge mode, node input 10 up and down, Intisr",
+            bus_read(INTISR, 4),
+            SOURCE_10,
+        )?
+        .accepts("8.2 Intenclr", bus_write(INTENCLR, 4, SOURCE_10))?
+        .reads("8.2 Intisr", bus_read(INTISR, 4), 0)
 }
 
 // Sources 0 and 1 are the bridge's lines and have no input.
-fn node_sources(rt: &impl Print, run: Run) -> io::Result<Run> {
+fn node_sources<P: Print>(run: Run<P>) -> io::Result<Run<P>> {
     run.fresh()
-        .refuses(rt, node_input(1, true), 7)?
-        .accepts(rt, node_input(2, true))?
-        .accepts(rt, node_input(31, true))?
-        .refuses(rt, node_input(32, true), 7)
+        .refuses(
+            "8.2 node input 1 high",
+            node_input(1, true),
+            Refusal::Source,
+        )?
+        .accepts("8.2 node input 2 high", node_input(2, true))?
+        .accepts("8.2 node input 31 high", node_input(31, true))?
+        .refuses(
+            "8.2 node input 32 high",
+            node_input(32, true),
+            Refusal::Source,
+        )
 }
 
 // The lowest source in service at an output, the gate closed; on a fresh device there is none.
-fn which_source(rt: &impl Print, run: Run) -> io::Result<Run> {
+fn which_source<P: Print>(run: Run<P>) -> io::Result<Run<P>> {
     run.fresh()
-        .refuses(rt, which(Chip::Chip0), 9)?
+        .refuses(
+            "Q-5 which source in INTISR_CHIP0, fresh device",
+            which(Chip::Chip0),
+            Refusal::NoneInService,
+        )?
         .after(bridge_write(Register::IntMask, 0))
         .after(bridge_write(Register::RouteEntry(63), 3))
         .after(bridge_write(Register::RouteEntry(8), 1))
         .after(bridge_write(Register::RouteEntry(0), 1))
         .after(input(63, true))
-        .reads(rt, which(Chip::Chip0), 63)?
+        .reads("Q-5 source 63 high, routed to both", which(Chip::Chip0), 63)?
         .after(input(8, true))
-        .reads(rt, which(Chip::Chip0), 8)?
+        .reads("Q-5 source 8 too, routed to INTn0", which(Chip::Chip0), 8)?
         .after(input(0, true))
-        .reads(rt, which(Chip::Chip0), 0)?
-        .reads(rt, which(Chip::Chip1), 63)
+        .reads("Q-5 source 0 too, routed to INTn0", which(Chip::Chip0), 0)?
+        .reads("Q-5 which source in INTISR_CHIP1", which(Chip::Chip1), 63)
 }
 
 // Two interrupts of a source in turn mode that is routed to both outputs: each shows on one, and the second on the other.
-fn turns(rt: &impl Print, run: Run) -> io::Result<Run> {
+fn turns<P: Print>(run: Run<P>) -> io::Result<Run<P>> {
     run.fresh()
         .after(bridge_write(Register::IntMask, 0))
         .after(bridge_write(Register::AutoCtrl0, SOURCE_63))
         .after(bridge_write(Register::RouteEntry(63), 3))
         .after(input(63, true))
-        .shows(rt, Register::IntIsrChip1, 0)?
+        .shows(
+            "Q-6 INTISR_CHIP1, source 63 high, in turn mode, routed to both",
+            Register::IntIsrChip1,
+            0,
+        )?
         .after(input(63, false))
         .after(input(63, true))
-        .shows(rt, Register::IntIsrChip1, SOURCE_63)
+        .shows(
+            "Q-6 INTISR_CHIP1, source 63 low and high again",
+            Register::IntIsrChip1,
+            SOURCE_63,
+        )
 }
 
 // The bits that a write moved: of a half in its place, of the same write again none, of the gate bit 48.
-fn moved(rt: &impl Print, run: Run) -> io::Result<Run> {
+fn moved<P: Print>(run: Run<P>) -> io::Result<Run<P>> {
     let mail = private_write(0, 0x1048, 8, 0xaabbccdd_4001001c);
     run.fresh()
-        .moves(rt, mail, 0x00bbccdd_00000000)?
-        .moves(rt, mail, 0)?
-        .moves(rt, bus_write(0x1fe00424, 4, 0x00010000), GATE)
+        .moves("Q-8 the mail send of example 3", mail, 0x00bbccdd_00000000)?
+        .moves("Q-8 the same again", mail, 0)?
+        .moves(
+            "Q-8 write 0x1fe00424, 4 = 0x00010000",
+            bus_write(0x1fe00424, 4, 0x00010000),
+            GATE,
+        )
 }
 
 // Of INTEDGE the mode, and not the latch that goes with it; of a route the bits that are held; no word of an input change, and none of a write that is
 // refused.
-fn moved_alone(rt: &impl Print, run: Run) -> io::Result<Run> {
+fn moved_alone<P: Print>(run: Run<P>) -> io::Result<Run<P>> {
     run.fresh()
-        .moves(rt, bridge_write(Register::IntEdge, 8), 8)?
-        .moves(rt, input(3, true), 0)?
-        .moves(rt, bridge_write(Register::IntEdge, 0), 8)?
-        .moves(rt, bridge_write(Register::SoftInt, 8), 8)?
-        .moves(rt, bridge_write(Register::RouteEntry(63), 0xff), 3)?
-        .moves(rt, bus_write(ENTRY_10, 1, 0xff), 0xf3)?
-        .moves(rt, bus_write(0x1fe01004, 4, 0x100000000), 0)
+        .moves("Q-8 INTEDGE = 8", bridge_write(Register::IntEdge, 8), 8)?
+        .moves("Q-8 input 3 high", input(3, true), 0)?
+        .moves("Q-8 INTEDGE = 0", bridge_write(Register::IntEdge, 0), 8)?
+        .moves("Q-8 SOFT_INT = 8", bridge_write(Register::SoftInt, 8), 8)?
+        .moves(
+            "Q-8 ROUTE_ENTRY 63 = 0xff",
+            bridge_write(Register::RouteEntry(63), 0xff),
+            3,
+        )?
+        .moves("Q-8 Entry 10 = 0xff", bus_write(ENTRY_10, 1, 0xff), 0xf3)?
+        .moves(
+            "Q-8 write 0x1fe01004, 4 = 0x100000000",
+            bus_write(0x1fe01004, 4, 0x100000000),
+            0,
+        )
 }
 
 fn main(rt: HostRuntime) -> io::Result<()> {
-    let run = Run::start();
-    let run = example_5(&rt, run)?;
-    let run = example_6(&rt, run)?;
-    let run = example_7(&rt, run)?;
-    let run = example_8(&rt, run)?;
-    let run = example_8_source_64(&rt, run)?;
-    let run = example_9(&rt, run)?;
-    let run = example_9_level(&rt, run)?;
-    let run = example_10(&rt, run)?;
-    let run = example_11(&rt, run)?;
-    let run = example_12_status(&rt, run)?;
-    let run = example_12_mail(&rt, run)?;
-    let run = example_13(&rt, run)?;
-    let run = node_route(&rt, run)?;
-    let run = node_level(&rt, run)?;
-    let run = node_edge(&rt, run)?;
-    let run = node_sources(&rt, run)?;
-    let run = which_source(&rt, run)?;
-    let run = turns(&rt, run)?;
-    let run = moved(&rt, run)?;
-    let run = moved_alone(&rt, run)?;
-    run.show_totals(&rt)
+    let run = Run::new(&rt);
+    let run = example_5(run)?;
+    let run = example_6(run)?;
+    let run = example_7(run)?;
+    let run = example_8(run)?;
+    let run = example_8_source_64(run)?;
+    let run = example_9(run)?;
+    let run = example_9_level(run)?;
+    let run = example_10(run)?;
+    let run = example_11(run)?;
+    let run = example_12_status(run)?;
+    let run = example_12_mail(run)?;
+    let run = example_13(run)?;
+    let run = node_route(run)?;
+    let run = node_level(run)?;
+    let run = node_edge(run)?;
+    let run = node_sources(run)?;
+    let run = which_source(run)?;
+    let run = turns(run)?;
+    let run = moved(run)?;
+    let run = moved_alone(run)?;
+    run.show_totals()
 }

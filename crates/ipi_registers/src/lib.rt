@@ -2,13 +2,13 @@
 #![tactic(auto)]
 
 ghost use Rattle.std.specs.Prelude.{◌≡◌, ◌+◌, ◌<◌};
-ghost use Rattle.ipi_registers.specs.Table.{entry, entry_at, send_at};
+ghost use Rattle.ipi_registers.specs.Table.{entry_at, send_at};
 ghost use Rattle.ipi_registers.specs.Effect.{effect_of, half_of, in_half, ipi_sent, mail_sent, target_of};
 
-use access::{Access, Rights, Widths};
+use access::{Rights, Widths};
 
 // A register that an offset names. The low half of a mailbox is the mailbox at width 4.
-#[derive(Clone, Copy)]
+#[derive(Clone, Copy, PartialEq, Eq)]
 pub enum Register {
     Status,
     Enable,
@@ -20,17 +20,8 @@ pub enum Register {
     MailSend,
 }
 
-#[derive(Clone, Copy)]
-pub struct Entry {
-    pub register: Register,
-    pub access: Access,
-}
-
-#[derive(Clone, Copy)]
-pub enum Found {
-    Nothing,
-    At(Entry),
-}
+// A register that an offset names, and how it may be accessed.
+pub type Entry = access::Entry<Register>;
 
 // A cell that a write reaches.
 #[derive(Clone, Copy)]
@@ -40,67 +31,47 @@ pub enum Cell {
     MailBox(u64),
 }
 
-// The bits of the cell that are in mask take the values in bits.
-#[derive(Clone, Copy)]
-pub struct Effect {
-    pub cell: Cell,
-    pub mask: u64,
-    pub bits: u64,
-}
-
-fn entry_of(register: Register, rights: Rights, widths: Widths) -> Found
-    ensures { result ≡ entry register rights widths }
-{
-    Found::At(Entry {
-        register: register,
-        access: Access {
-            rights: rights,
-            widths: widths,
-        },
-    })
-}
+// What a write does: every one is plain.
+pub type Effect = access::Effect<Cell>;
 
 // The register that starts at an offset, without the core term.
-pub fn entry_at(offset: u64) -> Found
+#[tactic(auto, using(crate::proofs::Ranges::by_range))]
+pub fn entry_at(offset: u64) -> Option<Entry>
     ensures { result ≡ entry_at offset }
 {
     match offset {
-        0x1000 => entry_of(Register::Status, Rights::Read, Widths::Four),
-        0x1004 => entry_of(Register::Enable, Rights::Both, Widths::Four),
-        0x1008 => entry_of(Register::Set, Rights::Write, Widths::Four),
-        0x100c => entry_of(Register::Clear, Rights::Write, Widths::Four),
+        0x1000 => Some(Entry::new(Register::Status, Rights::Read, Widths::Four)),
+        0x1004 => Some(Entry::new(Register::Enable, Rights::Both, Widths::Four)),
+        0x1008 => Some(Entry::new(Register::Set, Rights::Write, Widths::Four)),
+        0x100c => Some(Entry::new(Register::Clear, Rights::Write, Widths::Four)),
         0x1020..=0x103f => mailbox_at(offset - 0x1020),
-        _ => Found::Nothing,
+        _ => None,
     }
 }
 
 // The register that starts at a place in the mailboxes.
-fn mailbox_at(at: u64) -> Found
+#[tactic(auto, using(crate::proofs::Ranges::mailboxes))]
+fn mailbox_at(at: u64) -> Option<Entry>
     requires { at < 32 }
     ensures { result ≡ entry_at (0x1020 + at) }
 {
     match at % 8 {
-        0 => entry_of(Register::MailBox(at / 8), Rights::Both, Widths::FourOrEight),
-        4 => entry_of(Register::MailBoxHigh(at / 8), Rights::Both, Widths::Four),
-        _ => Found::Nothing,
+        0 => Some(Entry::new(Register::MailBox(at / 8), Rights::Both, Widths::FourOrEight)),
+        4 => Some(Entry::new(Register::MailBoxHigh(at / 8), Rights::Both, Widths::Four)),
+        _ => None,
     }
 }
 
 // The send register that starts at an offset of the private window.
-pub fn send_at(offset: u64) -> Found
+#[tactic(auto, unfolding(crate::specs::Table::send_at, crate::specs::Table::sends))]
+pub fn send_at(offset: u64) -> Option<Entry>
     ensures { result ≡ send_at offset }
 {
     match offset {
-        0x1040 => entry_of(Register::IpiSend, Rights::Write, Widths::Four),
-        0x1048 => entry_of(Register::MailSend, Rights::Write, Widths::Eight),
-        _ => Found::Nothing,
+        0x1040 => Some(Entry::new(Register::IpiSend, Rights::Write, Widths::Four)),
+        0x1048 => Some(Entry::new(Register::MailSend, Rights::Write, Widths::Eight)),
+        _ => None,
     }
-}
-
-fn target_field(value: u64) -> u64
-    ensures { result ≡ target_of Register.IpiSend 0 value }
-{
-    value / 0x10000 % 0x400
 }
 
 // The core whose cells a write reaches: the target of a send, and else the core itself.
@@ -109,24 +80,8 @@ pub fn target(register: Register, core: u64, value: u64) -> u64
     ensures { result ≡ target_of register core value }
 {
     match register {
-        Register::Status => core,
-        Register::Enable => core,
-        Register::Set => core,
-        Register::Clear => core,
-        Register::MailBox(_) => core,
-        Register::MailBoxHigh(_) => core,
-        Register::IpiSend => target_field(value),
-        Register::MailSend => target_field(value),
-    }
-}
-
-fn effect_on(cell: Cell, mask: u64, bits: u64) -> Effect
-    ensures { result ≡ record { cell = cell; mask = mask; bits = bits } }
-{
-    Effect {
-        cell: cell,
-        mask: mask,
-        bits: bits,
+        Register::IpiSend | Register::MailSend => value / 0x10000 % 0x400,
+        _ => core,
     }
 }
 
@@ -144,17 +99,18 @@ fn in_half(h: u64, x: u64) -> u64
 fn half_effect(h: u64, mask: u64, bits: u64) -> Effect
     ensures { result ≡ half_of h mask bits }
 {
-    effect_on(Cell::MailBox(h / 2), in_half(h, mask), in_half(h, bits))
+    Effect::new(Cell::MailBox(h / 2), in_half(h, mask), in_half(h, bits))
 }
 
 // A write to a mailbox: all of it, or its low half.
+#[tactic(auto, unfolding(crate::specs::Effect::effect_of))]
 fn mailbox_effect(i: u64, width: u64, value: u64) -> Effect
     ensures { result ≡ effect_of (Register.MailBox i) width value }
 {
     if width == 8 {
-        effect_on(Cell::MailBox(i), 0xffff_ffff_ffff_ffff, value)
+        Effect::new(Cell::MailBox(i), 0xffff_ffff_ffff_ffff, value)
     } else {
-        effect_on(Cell::MailBox(i), 0xffff_ffff, in_half(0, value))
+        Effect::new(Cell::MailBox(i), 0xffff_ffff, in_half(0, value))
     }
 }
 
@@ -162,9 +118,10 @@ fn ipi_effect(value: u64) -> Effect
     ensures { result ≡ ipi_sent value }
 {
     let vector = bits::put(0, value % 32, true);
-    effect_on(Cell::Status, vector, vector)
+    Effect::new(Cell::Status, vector, vector)
 }
 
+#[tactic(auto, unfolding(crate::specs::Effect::mail_sent))]
 fn mail_effect(value: u64) -> Effect
     ensures { result ≡ mail_sent value }
 {
@@ -176,17 +133,18 @@ fn mail_effect(value: u64) -> Effect
 }
 
 // What a write to a register does. No write to Status is accepted.
+#[tactic(auto, unfolding(crate::specs::Effect::effect_of))]
 pub fn write_effect(register: Register, width: u64, value: u64) -> Effect
     ensures { result ≡ effect_of register width value }
 {
     match register {
-        Register::Status => effect_on(Cell::Status, 0, 0),
-        Register::Enable => effect_on(Cell::Enable, 0xffff_ffff, value),
-        Register::Set => effect_on(Cell::Status, value, value),
-        Register::Clear => effect_on(Cell::Status, value, 0),
+        Register::Status => Effect::new(Cell::Status, 0, 0),
+        Register::Enable => Effect::new(Cell::Enable, 0xffff_ffff, value),
+        Register::Set => Effect::new(Cell::Status, value, value),
+        Register::Clear => Effect::new(Cell::Status, value, 0),
         Register::MailBox(i) => mailbox_effect(i, width, value),
         Register::MailBoxHigh(i) => {
-            effect_on(Cell::MailBox(i), 0xffff_ffff_0000_0000, in_half(1, value))
+            Effect::new(Cell::MailBox(i), 0xffff_ffff_0000_0000, in_half(1, value))
         }
         Register::IpiSend => ipi_effect(value),
         Register::MailSend => mail_effect(value),

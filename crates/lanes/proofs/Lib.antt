@@ -1,2 +1,3 @@
 pub mod LowestBit
 pub mod Rest
+mod Written

@@ -1,41 +1,18 @@
--- The lowest set bit: where it is, what `trailing_zeros` gives, and how it is cleared.
+-- The lowest set bit: where it is, and how it is cleared.
 use Prim.Native.Nat.{ℕ, zero, suc, ◌-◌, ◌/◌, ◌%◌, ◌^◌, ◌<◌}
-use mathlib.Core.Path.{◌≡◌, refl, sym, ap, ap₂, ◌∙◌}
+use mathlib.Core.Path.{◌≡◌, sym, ap, ◌∙◌}
 use mathlib.Core.Bool.{Bool, true, false, cond, not, and_self}
-use native.Mathlib.Nat.{div-one}
 use native.Mathlib.Numerals.{one-add}
 use native.Mathlib.Omega.{arith}
 use lib.Bits.{bit_and, and_lt, and_le_r}
-use lib.Count.{count_trailing_zeros, under}
 use lib.Dec.{eqb, eqb-zero-suc, eqb-suc-zero, eqb-suc-suc}
 use borrow.Table.Steps.{cases}
 use borrow.Author.Tests.{ne_eqb, eqb-true, eqb-false}
-use Rattle.bits.specs.Bits.{bit, first, put}
-use Rattle.bits.proofs.Words.{bit_shr, is_word, word_lt}
+use Rattle.bits.specs.Bits.{bit, first, held, put}
+use Rattle.bits.proofs.Lowest.{bit_0}
+use Rattle.bits.proofs.Words.{bit_shr, is_word, word_bit, word_lt}
 use Rattle.bits.proofs.Operations.{bit_and_lem}
 use Rattle.bits.proofs.Some.{some_bit, some_at}
-
-pub first_cong : (k : ℕ) {f g : ℕ → Bool} → ((i : ℕ) → i < k → f i ≡ g i) → first k f ≡ first k g
-unfolding first
-first_cong zero e = refl
-first_cong (suc k) e = ap₂ (λ (b : Bool) (n : ℕ). cond b 0 (suc n)) (e 0 (omega arith)) (first_cong k (λ i h. e (suc i) (omega arith)))
-
-under_digit : (d t : ℕ) → d < 2 → under d t ≡ cond (eqb d 1) 0 (suc t)
-under_digit zero t h = refl
-under_digit (suc zero) t h = refl
-under_digit (suc (suc d)) t h = absurd (omega arith)
-
-bit_0 : (n : ℕ) → bit n 0 ≡ eqb (n % 2) 1
-unfolding bit
-bit_0 n = rw div-one
-
--- what `trailing_zeros` gives
-pub trailing_first : (k n : ℕ) → count_trailing_zeros k n ≡ first k (bit n)
-unfolding count_trailing_zeros first
-trailing_first zero n = refl
-trailing_first (suc k) n =
-    under_digit (n % 2) (count_trailing_zeros k (n / 2)) (omega arith)
-    ∙ ap₂ (λ (b : Bool) (m : ℕ). cond b 0 (suc m)) (sym (bit_0 n)) (trailing_first k (n / 2) ∙ first_cong k (λ i h. bit_shr 1 n i ∙ ap (bit n) (one-add i)))
 
 -- ---- where it stands
 
@@ -86,6 +63,9 @@ bit_clear (suc k) w (suc i) h =
 pub clear_lowest : (k w : ℕ) → w < 2 ^ k → bit_and w (w - 1) ≡ put k w (first k (bit w)) false
 unfolding put
 clear_lowest k w h = is_word k (and_lt k w (w - 1) h (omega arith)) (bit_clear k w)
+
+pub held_clear : (k w : ℕ) → w < 2 ^ k → held k (bit_and w (w - 1)) ≡ put k w (first k (bit w)) false
+held_clear k w h = word_bit k (and_lt k w (w - 1) h (omega arith)) ∙ clear_lowest k w h
 
 pub clear_less : (k : ℕ) {w : ℕ} → w < 2 ^ k → (w ≡ 0 → ⊥) → put k w (first k (bit w)) false < w
 clear_less k {w} h n = omega (arith, clear_lowest k w h, and_le_r w (w - 1))

@@ -1,18 +1,18 @@
 -- The loops over the set bits of a word: the result so far, with the bits that are still to look at, makes the whole.
-use Prim.Native.Nat.{ℕ, ◌-◌, ◌*◌, ◌%◌, ◌^◌, ◌<◌}
+use Prim.Native.Nat.{ℕ, ◌-◌, ◌*◌, ◌%◌, ◌^◌, ◌≤◌, ◌<◌}
 use mathlib.Core.Path.{◌≡◌, refl, sym, ap, ◌∙◌}
-use mathlib.Core.Bool.{Bool, true, false, cond, ◌&&◌, ◌||◌, and-false, or_assoc, or-false}
+use mathlib.Core.Bool.{Bool, true, false, cond, ◌&&◌, ◌||◌, and-false, and-true, or_assoc, or-false}
 use mathlib.Core.List.{List}
 use native.Mathlib.Nat.{mod-lt}
 use lib.Bits.{bit_or, or_lt}
-use lib.Dec.{eqb}
+use lib.Dec.{eqb, ltb}
 use lib.ListN.{get_or}
 use lib.Pow.{pow_pos}
 use borrow.Table.Steps.{cases}
-use borrow.Author.Tests.{eq-eqb, eqb-false, lt-ltb, ne_eqb}
-use Rattle.bits.specs.Bits.{bit, digit, word, some, first, put}
-use Rattle.bits.proofs.Words.{bit_mod, bit_zero, bit_word, is_word, word_lt}
-use Rattle.bits.proofs.Operations.{bit_or_lem, bit_ones, bit_place}
+use borrow.Author.Tests.{eq-eqb, eqb-false, eqb-true, lt-ltb, ne_eqb}
+use Rattle.bits.specs.Bits.{bit, digit, word, some, first, held, put}
+use Rattle.bits.proofs.Words.{bit_mod, bit_zero, bit_word, is_word, word_bit, word_cong, word_lt}
+use Rattle.bits.proofs.Operations.{bit_or_lem, bit_ones, bit_place, word_low}
 use Rattle.bits.proofs.Cond.{cond_ap}
 use Rattle.bits.proofs.Some.{some_cong, some_none, some_or, some_split}
 use Rattle.bits.proofs.Taut.{taut}
@@ -80,6 +80,13 @@ module _ {k n : ℕ} {f : ℕ → ℕ → Bool} where
 pub placed : (k : ℕ) (b : Bool) (i : ℕ) → digit b * 2 ^ i % 2 ^ k ≡ word k (λ j. eqb j i && b)
 placed k b i = is_word k (mod-lt _ (pow_pos k)) (λ j h. bit_mod k _ j h ∙ bit_place b i j)
 
+-- in the low bits of a wider word
+pub placed_low : (k w : ℕ) (b : Bool) (i : ℕ) → i < k → k ≤ w → digit b * 2 ^ i % 2 ^ w ≡ word k (λ j. eqb j i && b)
+placed_low k w b i h l = placed w b i ∙ word_cong w (λ j p. inside j) ∙ word_low k w (λ j. eqb j i && b) l
+  where
+    inside : (j : ℕ) → (eqb j i && b) ≡ ((eqb j i && b) && ltb j k)
+    inside j = cases (eqb j i) (λ e. rw (e, eqb-true j i e, lt-ltb i k h) (sym (and-true b))) (λ e. rw e)
+
 pub own : (n j : ℕ) (f g : ℕ → Bool) → j < n → some n (λ i. f i && (eqb j i && g i)) ≡ (f j && g j)
 own n j f g h =
     some_split n j (λ i. f i && (eqb j i && g i)) h
@@ -87,6 +94,12 @@ own n j f g h =
   where
     other : (i : ℕ) → cond (eqb i j) false (f i && (eqb j i && g i)) ≡ false
     other i = cases (eqb i j) (λ e. rw e) (λ e. rw (e, ne_eqb j i (λ q. eqb-false i j e (sym q))) (and-false (f i)))
+
+-- the bytes that give a bit, gathered
+pub held_gathered : (n : ℕ) (bytes : List ℕ) (which k : ℕ) {r : ℕ} → r ≡ word n (picked n (λ i j. eqb j i && bit (get_or bytes i 0) k) which)
+    → held n r ≡ gathered n bytes which k
+unfolding gathered
+held_gathered n bytes which k e = rw e (word_bit n (word_lt n _) ∙ word_cong n (λ j h. own n j (bit which) (λ i. bit (get_or bytes i 0) k) h))
 
 pub gathered_bit : (n : ℕ) (bytes : List ℕ) (which k i : ℕ) → i < n → bit (gathered n bytes which k) i ≡ (bit which i && bit (get_or bytes i 0) k)
 unfolding gathered

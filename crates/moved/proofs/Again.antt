@@ -8,7 +8,7 @@ use Rattle.bits.proofs.Taut.{taut}
 use Rattle.bits.proofs.Writes.{merge_held, merge_twice}
 use Rattle.ipi_registers.specs.declared.Cell as ipi
 use Rattle.ipi_registers.specs.declared.Cell.TheVariants.{Status, Enable, MailBox}
-use Rattle.ipi_registers.specs.declared.Effect.{Effect}
+use Rattle.access.specs.declared.Effect.{Effect}
 use Rattle.cores.specs.declared.Core.{Core}
 use Rattle.cores.specs.Core as cores
 use Rattle.cores.specs.Moved as core
@@ -112,7 +112,7 @@ tree_twice t a = acted_cell (trees.acted_of t a) a ∙ unsettled_twice t a ∙ s
 
 -- ---- the device
 
-core_again : (d : Device) (e : Effect) (n : ℕ) → cell_of (next_of (next_of d (WriteCore e n)) (WriteCore e n)) (WriteCore e n) ≡ cell_of (next_of d (WriteCore e n)) (WriteCore e n)
+core_again : (d : Device) (e : Effect ipi.Cell) (n : ℕ) → cell_of (next_of (next_of d (WriteCore e n)) (WriteCore e n)) (WriteCore e n) ≡ cell_of (next_of d (WriteCore e n)) (WriteCore e n)
 unfolding cell_of next_of cores.applied_of
 core_again d e n =
     let k = cores.applied_of (core_of d n) e in

@@ -9,10 +9,9 @@ use Rattle.bits.specs.Bits.{differ, digit, held}
 use Rattle.bits.proofs.Words.{bit_word, word_lt}
 use Rattle.bits.proofs.Writes.{differ_same}
 use Rattle.access.specs.Refusal.{first_of}
-use Rattle.access.specs.declared.Verdict.{Verdict}
-use Rattle.access.specs.declared.Verdict.TheVariants as verdict
-use Rattle.admission.specs.declared.Admission.{Admission}
-use Rattle.admission.specs.declared.Admission.TheVariants as admission
+use Rattle.std.specs.Prelude.{Result, Ok, Err, ⊤}
+use Rattle.access.specs.declared.Refusal.{Refusal}
+use Rattle.admission.specs.declared.Admitted.{Admitted}
 use Rattle.admission.specs.Refusals.{bridge_refusals, input_refusals, node_input_refusals}
 use Rattle.windows.specs.declared.Place.{Place}
 use Rattle.windows.specs.declared.Place.TheVariants as place
@@ -80,15 +79,15 @@ quiet_read (place.Node register) w d = refl
 quiet_read place.Gate w d = refl
 quiet_read place.GateHigh w d = refl
 
-quiet_access : (a : Admission) (w v : ℕ) → Quiet (admitted_plan a w false v)
+quiet_access : (a : Result Admitted Refusal) (w v : ℕ) → Quiet (admitted_plan a w false v)
 unfolding admitted_plan access_plan cell_of
-quiet_access (admission.Refused reason) w v d = refl
-quiet_access (admission.At p target) w v d = quiet_read p w d
+quiet_access (Err reason) w v d = refl
+quiet_access (Ok a) w v d = quiet_read a.place w d
 
-quiet_planned : (v : Verdict) (p : Plan) → Quiet p → Quiet (planned v p)
+quiet_planned : (v : Result ⊤ Refusal) (p : Plan) → Quiet p → Quiet (planned v p)
 unfolding cell_of
-quiet_planned verdict.Accepted p q d = q d
-quiet_planned (verdict.Refused reason) p q d = refl
+quiet_planned (Ok accepted) p q d = q d
+quiet_planned (Err reason) p q d = refl
 
 quiet : (o : Bool) (s : Step) → is_write s ≡ false → Quiet (decide_of o s)
 unfolding decide_of bridge_plan input_plan node_input_plan cell_of tree.cell_of
@@ -116,13 +115,13 @@ no_write d s = record {
 abbrev gives : Given → Bool
 gives NotListed = false
 gives Nothing = false
-gives (Bits cell mask bits) = true
+gives (Bits e) = true
 
 -- the cell that is given bits, as it stands in a device
 abbrev shown_in : Device → Given → ℕ
 shown_in d NotListed = 0
 shown_in d Nothing = 0
-shown_in d (Bits cell mask bits) = shown cell (get d cell)
+shown_in d (Bits e) = shown e.cell (get d e.cell)
 
 core_shown : (k : Core) (c : ipi.Cell) → cores.cell_of k c ≡ held (core_row c).bits (word_of (core_row c) k)
 unfolding cores.cell_of
@@ -165,7 +164,7 @@ plan_shown d Reset g = absurd (true≢false (sym g))
 abbrev nothing : Given → Bool
 nothing NotListed = false
 nothing Nothing = true
-nothing (Bits cell mask bits) = false
+nothing (Bits e) = false
 
 quiet_write : (w : Write) → nothing (tree_given w) ≡ true → Quiet (WriteTree w)
 unfolding tree_given cell_of tree.cell_of

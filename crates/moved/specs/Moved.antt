@@ -4,10 +4,9 @@
 --   GivenCell     of a plain write the cell is the one to which the order rule gives bits
 --   Repeated      a step that is repeated at once has the word 0
 --   Moved         all of these, and the table
-use Rattle.std.specs.Prelude.{ℕ, ◌*◌, ◌^◌, ◌<◌, ◌≡◌, ◌↔◌, true, false}
+use Rattle.std.specs.Prelude.{ℕ, ◌*◌, ◌^◌, ◌<◌, ◌≡◌, ◌↔◌, true, false, Err}
 use Rattle.bits.specs.Bits.{bit, differ, held}
 use Rattle.access.specs.declared.Refusal.{Refusal}
-use Rattle.answers.specs.declared.Outcome.TheVariants.{Refused}
 use Rattle.routes.specs.Routes.{route_read}
 use Rattle.node_registers.specs.declared.Cell.TheVariants.{Inten, Entry}
 use Rattle.steps.specs.declared.Step.{Step}
@@ -16,9 +15,9 @@ use Rattle.device.specs.declared.Device.{Device}
 use Rattle.device.specs.Step.{cell_of, step_of}
 use Rattle.reorder.specs.declared.Cell.{Cell}
 use Rattle.reorder.specs.declared.Cell.TheVariants.{Core0, Core1, Bridge, Gate, Node}
-use Rattle.reorder.specs.declared.Given.TheVariants.{Nothing, Bits}
+use Rattle.reorder.specs.declared.Given.TheVariants.{Nothing}
 use Rattle.reorder.specs.Cells.{bridge_row, core_row, get}
-use Rattle.reorder.specs.Writes.{given_in, is_write}
+use Rattle.reorder.specs.Writes.{bits_of, given_in, is_write}
 use Rattle.moved.specs.Table.{Table}
 
 abbrev pub after : Device → Step → Device
@@ -42,7 +41,7 @@ pub record MovedBits (d : Device) (s : Step) : Type 0 where
 -- reads, searches, input changes of either kind, the window switch and a reset; and a step that is refused
 pub record NoWrite (d : Device) (s : Step) : Type 0 where
   pub other : is_write s ≡ false → moved d s ≡ 0
-  pub refused : (reason : Refusal) → (step_of d s).answer.outcome ≡ Refused reason → moved d s ≡ 0
+  pub refused : (reason : Refusal) → (step_of d s).answer.outcome ≡ Err reason → moved d s ≡ 0
 
 -- ---- plain writes
 
@@ -58,7 +57,7 @@ shown (Node (Entry i)) w = route_read w
 
 -- a plain write moves bits of the cell to which the order rule gives some, and none where it gives nothing
 pub record GivenCell (d : Device) (s : Step) : Type 0 where
-  pub bits : (cell : Cell) (mask bits : ℕ) → given_in d.second_open s ≡ Bits cell mask bits
+  pub bits : (cell : Cell) (mask bits : ℕ) → given_in d.second_open s ≡ bits_of cell mask bits
       → moved d s ≡ differ 64 (shown cell (get d cell)) (shown cell (get (after d s) cell))
   pub nothing : given_in d.second_open s ≡ Nothing → moved d s ≡ 0
 

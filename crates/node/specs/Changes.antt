@@ -10,7 +10,7 @@ use Rattle.bits.specs.Latch.{latched}
 use Rattle.routes.specs.Routes.{written_of}
 use Rattle.node_registers.specs.declared.Cell.{Cell}
 use Rattle.node_registers.specs.declared.Cell.TheVariants.{Inten, Entry}
-use Rattle.node_registers.specs.declared.Effect.{Effect}
+use Rattle.access.specs.declared.Effect.{Effect}
 use Rattle.node_registers.specs.declared.Change.{Change}
 use Rattle.node_registers.specs.declared.Change.TheVariants.{Edge, Nothing}
 use Rattle.node.specs.declared.Before.{Before}
@@ -27,7 +27,7 @@ abbrev pub on : Node → Cell → ℕ → ℕ → Node
 on n Inten m v = with_latch (with_enable n (merge 32 n.enable m v)) (disabled m v n.latch)
 on n (Entry i) m v = with_routes n (written_of n.routes i m v)
 
-unfoldable pub applied_of : Node → Effect → Node
+unfoldable pub applied_of : Node → Effect Cell → Node
 applied_of n e = on n e.cell e.mask e.bits
 
 -- ---- changes that are not plain: what the step itself moves

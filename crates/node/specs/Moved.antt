@@ -4,12 +4,12 @@
 --   write_moved, change_moved   a node after either, with the bits in which that cell differs before and after
 use Rattle.std.specs.Prelude.{ℕ}
 use Rattle.bits.specs.Bits.{differ, held}
+use Rattle.bits.specs.declared.After.{After}
 use Rattle.routes.specs.Routes.{route_read}
 use Rattle.node_registers.specs.declared.Cell.{Cell}
 use Rattle.node_registers.specs.declared.Cell.TheVariants.{Inten, Entry}
 use Rattle.node_registers.specs.declared.Change.{Change}
 use Rattle.node_registers.specs.declared.Change.TheVariants.{Edge, Nothing}
-use Rattle.node.specs.declared.Applied.{Applied}
 use Rattle.node.specs.declared.Node.{Node}
 use Rattle.node.specs.Sources.{route_of}
 
@@ -23,8 +23,8 @@ unfoldable pub changed_cell : Node → Change → ℕ
 changed_cell n (Edge mask bits) = held 32 n.edge
 changed_cell n Nothing = 0
 
-abbrev pub write_moved : Node → Node → Cell → Applied
-write_moved before after cell = record { node = after; moved = differ 64 (cell_of before cell) (cell_of after cell) }
+abbrev pub write_moved : Node → Node → Cell → After Node
+write_moved before after cell = record { state = after; moved = differ 64 (cell_of before cell) (cell_of after cell) }
 
-abbrev pub change_moved : Node → Node → Change → Applied
-change_moved before after change = record { node = after; moved = differ 64 (changed_cell before change) (changed_cell after change) }
+abbrev pub change_moved : Node → Node → Change → After Node
+change_moved before after change = record { state = after; moved = differ 64 (changed_cell before change) (changed_cell after change) }

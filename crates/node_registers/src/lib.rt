@@ -2,13 +2,13 @@
 #![tactic(auto)]
 
 ghost use Rattle.std.specs.Prelude.{◌≡◌};
-ghost use Rattle.node_registers.specs.Table.{entry_at, found, per_core_of};
+ghost use Rattle.node_registers.specs.Table.{entry_at, per_core_of};
 ghost use Rattle.node_registers.specs.Effect.{written_of};
 
-use access::{Access, Rights, Widths};
+use access::{Rights, Widths};
 
 // The registers of tables 8-5 and 8-7, in the manual's order: the status of a core and the route of a source by its number.
-#[derive(Clone, Copy)]
+#[derive(Clone, Copy, PartialEq, Eq)]
 pub enum Register {
     Intisr,
     Inten,
@@ -19,11 +19,8 @@ pub enum Register {
     Entry(u64),
 }
 
-#[derive(Clone, Copy)]
-pub enum Found {
-    Nothing,
-    At { register: Register, access: Access },
-}
+// A register that an offset names, and how it may be accessed.
+pub type Entry = access::Entry<Register>;
 
 // A cell that a plain write reaches.
 #[derive(Clone, Copy)]
@@ -32,15 +29,11 @@ pub enum Cell {
     Entry(u64),
 }
 
-// The bits of the cell that are in mask take the values in bits.
-#[derive(Clone, Copy)]
-pub struct Effect {
-    pub cell: Cell,
-    pub mask: u64,
-    pub bits: u64,
-}
+// A plain write.
+pub type Effect = access::Effect<Cell>;
 
 // A change that is not plain: bits of the edge choices take values, or none.
+// No Option: an `Option<(u64, u64)>` would not say whose bits these are, and the bridge's Change, its sister in `tree`, has five cases.
 #[derive(Clone, Copy)]
 pub enum Change {
     Edge { mask: u64, bits: u64 },
@@ -48,78 +41,50 @@ pub enum Change {
 }
 
 // What an accepted write does.
-#[derive(Clone, Copy)]
-pub enum Written {
-    Plain(Effect),
-    Changed(Change),
-}
-
-fn found_as(register: Register, rights: Rights, widths: Widths) -> Found
-    ensures { result ≡ found register rights widths }
-{
-    Found::At {
-        register: register,
-        access: Access {
-            rights: rights,
-            widths: widths,
-        },
-    }
-}
+pub type Written = access::Written<Cell, Change>;
 
 // The register that starts at an offset.
-pub fn entry_at(offset: u64) -> Found
+#[tactic(auto, using(crate::proofs::Ranges::nothing, crate::proofs::Ranges::behind, crate::proofs::Ranges::routes), unfolding(crate::specs::Table::entry_at, crate::specs::Table::table))]
+pub fn entry_at(offset: u64) -> Option<Entry>
     ensures { result ≡ entry_at offset }
 {
-    match offset {
-        0x1400..=0x141f => found_as(Register::Entry(offset - 0x1400), Rights::Both, Widths::One),
-        0x1420 => found_as(Register::Intisr, Rights::Read, Widths::Four),
-        0x1424 => found_as(Register::Inten, Rights::Read, Widths::Four),
-        0x1428 => found_as(Register::Intenset, Rights::Both, Widths::Four),
-        0x142c => found_as(Register::Intenclr, Rights::Both, Widths::Four),
-        0x1434 => found_as(Register::Intedge, Rights::Both, Widths::Four),
-        0x1440 => found_as(Register::CoreIntisr(0), Rights::Read, Widths::Four),
-        0x1448 => found_as(Register::CoreIntisr(1), Rights::Read, Widths::Four),
-        _ => Found::Nothing,
-    }
+    let (register, rights, widths) = match offset {
+        0x1400..=0x141f => (Register::Entry(offset - 0x1400), Rights::Both, Widths::One),
+        0x1420 => (Register::Intisr, Rights::Read, Widths::Four),
+        0x1424 => (Register::Inten, Rights::Read, Widths::Four),
+        0x1428 => (Register::Intenset, Rights::Both, Widths::Four),
+        0x142c => (Register::Intenclr, Rights::Both, Widths::Four),
+        0x1434 => (Register::Intedge, Rights::Both, Widths::Four),
+        0x1440 => (Register::CoreIntisr(0), Rights::Read, Widths::Four),
+        0x1448 => (Register::CoreIntisr(1), Rights::Read, Widths::Four),
+        _ => return None,
+    };
+    Some(Entry::new(register, rights, widths))
 }
 
 // The private window has the status of the core itself too, at 0x1010.
-pub fn per_core(core: u64) -> Found
+// Always Some: `per_core_of` is a row of the tables of windows, whose rows are Options.
+pub fn per_core(core: u64) -> Option<Entry>
     ensures { result ≡ per_core_of core }
 {
-    found_as(Register::CoreIntisr(core), Rights::Read, Widths::Four)
-}
-
-fn plain(cell: Cell, mask: u64, bits: u64) -> Written
-    ensures { result ≡ Written.Plain (record { cell = cell; mask = mask; bits = bits }) }
-{
-    Written::Plain(Effect {
-        cell: cell,
-        mask: mask,
-        bits: bits,
-    })
-}
-
-fn changed(change: Change) -> Written
-    ensures { result ≡ Written.Changed change }
-{
-    Written::Changed(change)
+    Some(Entry::new(Register::CoreIntisr(core), Rights::Read, Widths::Four))
 }
 
 // What a write to a register does. No write to a status register or to Inten is accepted.
+#[tactic(auto, unfolding(crate::specs::Effect::written_of))]
 pub fn write(register: Register, value: u64) -> Written
     ensures { result ≡ written_of register value }
 {
     match register {
-        Register::Intisr => changed(Change::Nothing),
-        Register::Inten => changed(Change::Nothing),
-        Register::Intenset => plain(Cell::Inten, value, value),
-        Register::Intenclr => plain(Cell::Inten, value, 0),
-        Register::Intedge => changed(Change::Edge {
+        Register::Intenset => Written::Plain(Effect::new(Cell::Inten, value, value)),
+        Register::Intenclr => Written::Plain(Effect::new(Cell::Inten, value, 0)),
+        Register::Intedge => Written::Changed(Change::Edge {
             mask: 0xffff_ffff,
             bits: value,
         }),
-        Register::CoreIntisr(_) => changed(Change::Nothing),
-        Register::Entry(source) => plain(Cell::Entry(source), 0xf3, value),
+        Register::Entry(source) => Written::Plain(Effect::new(Cell::Entry(source), 0xf3, value)),
+        Register::Intisr | Register::Inten | Register::CoreIntisr(_) => {
+            Written::Changed(Change::Nothing)
+        }
     }
 }

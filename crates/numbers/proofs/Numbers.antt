@@ -10,7 +10,8 @@ use lib.Dec.{ltb}
 use lib.ListN.{length, get_or, drop, drop_of_length-le}
 use Rattle.numbers.specs.Numbers.{digit_of, separates, formed, value_from, bounded}
 use Rattle.numbers.proofs.Places.{from_place}
-use Rattle.numbers.specs.declared.Number.TheVariants.{Value, TooLarge}
+use Rattle.std.specs.Prelude.{Ok, Err}
+use Rattle.numbers.specs.declared.NumberError.TheVariants.{TooLarge}
 
 module _ (base : ℕ) (s : List ℕ) (i : ℕ) where
   pub formed_digit : (after : Bool) → i < length s → digit_of (get_or s i 0) < base
@@ -61,11 +62,11 @@ value_least base n [] h = le_refl n
 value_least base n (c ∷ s) h =
     le_trans (grows base n (digit_of c) (ltb (digit_of c) base) h) (value_least base (cond (ltb (digit_of c) base) (n * base + digit_of c) n) s h)
 
-pub bounded_value : (n : ℕ) → n < 2 ^ 64 → bounded n ≡ Value n
+pub bounded_value : (n : ℕ) → n < 2 ^ 64 → bounded n ≡ Ok n
 unfolding bounded
 bounded_value n h = simp (lt-ltb n (2 ^ 64) h)
 
 -- Where the digits before a rest have a value from 2^64 on, so has the whole.
-pub bounded_large : (base n : ℕ) (rest : List ℕ) → 0 < base → 2 ^ 64 ≤ n → bounded (value_from base n rest) ≡ TooLarge
+pub bounded_large : (base n : ℕ) (rest : List ℕ) → 0 < base → 2 ^ 64 ≤ n → bounded (value_from base n rest) ≡ Err TooLarge
 unfolding bounded
 bounded_large base n rest b h = simp (le-ltb (value_from base n rest) (2 ^ 64) (le_trans h (value_least base n rest b)))

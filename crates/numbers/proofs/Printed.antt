@@ -1,15 +1,16 @@
 -- The digits of a number in a base: the first and the further ones, and the array that they end.
 use Prim.Native.Nat.{ℕ, zero, suc, ◌+◌, ◌-◌, ◌*◌, ◌/◌, ◌%◌, ◌^◌, ◌<◌, ◌≤◌}
-use mathlib.Core.Path.{◌≡◌, refl, ap, ◌∙◌}
+use mathlib.Core.Path.{◌≡◌, refl, sym, ap, subst, ◌∙◌}
 use mathlib.Core.Logic.{⊎_elim}
 use mathlib.Core.List.{List, [], ◌∷◌, ◌++◌}
 use native.Mathlib.Nat.{not-suc-le-zero, div-lt_self, div-lt_iff_lt-mul, pow-zero, pow-suc, one-mul}
 use native.Mathlib.Omega.{arith}
 use borrow.Author.Tests.{lt-ltb, le-ltb}
 use lib.ListN.{length, drop, set, replicate, length-replicate}
-use lib.Seq.{drop_at}
+use lib.Seq.{append_snoc, drop_at}
+use Rattle.std.proofs.Math.Bridge.{le_prop}
 use Rattle.bits.proofs.Words.{below}
-use Rattle.numbers.specs.declared.Digits.{Digits}
+use Rattle.numbers.specs.declared.digits.Digits.{Digits}
 use Rattle.numbers.specs.Printed.{glyph, digits_within, digits_of, ended}
 
 -- Any two counts of digits that are more than the number give the same digits.
@@ -48,16 +49,27 @@ pub stored : (k g : ℕ) (t : List ℕ) → set (replicate (suc k) 0 ++ t) k g �
 stored zero g t = refl
 stored (suc k) g t = ap (λ l. 0 ∷ l) (stored k g t)
 
+-- The last digit of a number before a text, and the digits of the quotient before both.
+pub before_text : (base n g : ℕ) (t : List ℕ) → 1 < base → base ≤ n → g ≡ glyph (n % base) → digits_of base (n / base) ++ (g ∷ t) ≡ digits_of base n ++ t
+before_text base n g t b h e =
+    ap (λ x. digits_of base (n / base) ++ (x ∷ t)) e ∙ sym (append_snoc (digits_of base (n / base)) (glyph (n % base)) t)
+    ∙ ap (λ s. s ++ t) (sym (digits_more base n b h))
+
+-- What holds of the start makes no difference between two.
+same_digits : (d e : Digits) → d.bytes ≡ e.bytes → d.start ≡ e.start → d ≡ e
+same_digits d e b s =
+    subst (λ n. (h : n ≤ 20) → d ≡ record { bytes = e.bytes; start = n; inside = h }) s
+    (λ h. ap (λ x. record { bytes = x; start = d.start; inside = d.inside }) b ∙ ap (λ x. record { bytes = e.bytes; start = d.start; inside = x }) (le_prop d.inside h))
+    e.inside
+
 -- An array of 20 bytes that is zeros and a text is that text, ended there.
-pub ended_at : (start : ℕ) (bytes s : List ℕ) → bytes ≡ replicate start 0 ++ s → start + length s ≡ 20 → record { bytes = bytes; start = start } ≡ ended s
+pub ended_at : (d : Digits) (s : List ℕ) → d.bytes ≡ replicate d.start 0 ++ s → d.start + length s ≡ 20 → d ≡ ended s
 unfolding ended
-ended_at start bytes s e h = let k : 20 - length s ≡ start = omega arith in rw (k, e)
+ended_at d s e h =
+    let k : d.start ≡ 20 - length s = omega arith in
+    same_digits d (ended s) (e ∙ ap (λ n. replicate n 0 ++ s) k) k
 
 -- A text that is ended in an array is what the array holds from the start on.
-pub ended_start : (s : List ℕ) (d : Digits) → d ≡ ended s → d.start ≤ 20
-unfolding ended
-ended_start s d e = rw e (omega arith)
-
 pub ended_text : (s : List ℕ) (d : Digits) → d ≡ ended s → drop d.start d.bytes ≡ s
 unfolding ended
 ended_text s d e = rw e (drop_at (replicate (20 - length s) 0) s (20 - length s) (length-replicate (20 - length s) 0))

@@ -11,7 +11,7 @@ use borrow.Author.Tests.{lt-ltb, le-ltb, le-leb, lt-leb, eqb-true}
 use lib.Dec.{eqb, ltb}
 use lib.Seq.{append_snoc}
 use Rattle.bits.proofs.Words.{below}
-use Rattle.numbers.specs.declared.Number.TheVariants.{Value}
+use Rattle.std.specs.Prelude.{Ok}
 use Rattle.numbers.specs.Numbers.{digit_of, separates, formed, value_from, bounded, number_in, marked, number_of}
 use Rattle.numbers.specs.Printed.{glyph, digits_within, digits_of, decimal_of}
 use Rattle.numbers.specs.RoundTrip.{HexRoundTrip, DecimalRoundTrip}
@@ -71,7 +71,7 @@ module _ (base : ℕ) (more : 1 < base) (most : base ≤ 16) where
   unfolding digits_of formed
   formed_digits n = ap (formed base false) (sym (append-nil (digits_of base n))) ∙ (reads (suc n) n [] (omega arith)).0
 
-  pub number_digits : (n : ℕ) → n < 2 ^ 64 → number_in base (digits_of base n) ≡ Value n
+  pub number_digits : (n : ℕ) → n < 2 ^ 64 → number_in base (digits_of base n) ≡ Ok n
   unfolding digits_of value_from number_in
   number_digits n h =
       rw (formed_digits n)

@@ -3,7 +3,8 @@
 --   hex_of    the text in base 16        decimal_of   the text in base 10
 --   ended    a text at the end of an array of 20 bytes
 use Rattle.std.specs.Prelude.{ℕ, zero, suc, ◌+◌, ◌-◌, ◌/◌, ◌%◌, cond, List, [], ◌∷◌, ◌++◌, ltb, length, replicate}
-use Rattle.numbers.specs.declared.Digits.{Digits}
+use Rattle.std.proofs.Math.Nat.{sub-le}
+use Rattle.numbers.specs.declared.digits.Digits.{Digits}
 
 -- The character of a digit below 16: `0` to `9`, then `a` to `f`.
 unfoldable pub glyph : ℕ → ℕ
@@ -29,4 +30,4 @@ decimal_of n = digits_of 10 n
 
 -- A text at the end of an array of 20 bytes, with zeros before it.
 unfoldable pub ended : List ℕ → Digits
-ended s = record { bytes = replicate (20 - length s) 0 ++ s; start = 20 - length s }
+ended s = record { bytes = replicate (20 - length s) 0 ++ s; start = 20 - length s; inside = sub-le 20 (length s) }

@@ -1,142 +1,111 @@
 // The text of numbers, as byte slices: read, and printed in hexadecimal and decimal.
 #![tactic(auto)]
 
-ghost use Rattle.std.specs.Prelude.{◌≡◌, false, ◌^◌, ◌≤◌, ◌<◌, drop};
-ghost use Rattle.numbers.specs.Numbers.{digit_of, separates as separates_of, formed, value_from, bounded, number_in, marked as marked_of, number_of};
+ghost use Rattle.std.specs.Prelude.{◌≡◌, false, ◌+◌, ◌*◌, ◌^◌, ◌≤◌, ◌<◌, drop, SomeIff};
+ghost use Rattle.numbers.specs.Numbers.{digit_in, separates as separates_of, formed, value_from, bounded, number_in, number_of};
 ghost use Rattle.numbers.specs.Printed.{glyph as glyph_of, digits_of, hex_of, decimal_of, ended};
 
-const LARGEST: u64 = 0xffff_ffff_ffff_ffff;
+mod digits;
 
-// What the text of a number says.
-#[derive(Clone, Copy)]
-pub enum Number {
-    Value(u64),
+pub use digits::Digits;
+
+// Why a text is no number below 2^64.
+#[derive(Clone, Copy, PartialEq, Eq, Debug)]
+pub enum NumberError {
     TooLarge,
     Malformed,
 }
 
 // The number that a whole token writes.
-pub fn parse_number(s: &[u8]) -> Number
+pub fn parse_number(s: &[u8]) -> Result<u64, NumberError>
     ensures { result ≡ number_of s.now }
 {
-    if marked(s) {
-        parse_digits(s, 2, 16)
-    } else {
-        parse_decimal(s, 0)
+    match s.strip_prefix(b"0x") {
+        Some(digits) => parse_digits(digits, 16),
+        None => parse_digits(s, 10),
     }
 }
 
 // The number that the decimal digits from a place on write.
-pub fn parse_decimal(s: &[u8], from: usize) -> Number
+pub fn parse_decimal(s: &[u8], from: usize) -> Result<u64, NumberError>
     ensures { result ≡ number_in 10 (drop from s.now) }
 {
-    parse_digits(s, from, 10)
+    parse_digits(&s[from.min(s.len())..], 10)
 }
 
-// Whether a text begins with `0x`.
-fn marked(s: &[u8]) -> bool
-    ensures { result ≡ marked_of s.now }
+// The number of a text of digits: its form is judged first.
+#[tactic(auto, unfolding(crate::specs::Numbers::number_in))]
+fn parse_digits(s: &[u8], base: u32) -> Result<u64, NumberError>
+    requires lt_base { 1 < base }
+    requires base_bound { base ≤ 16 }
+    ensures { result ≡ number_in base s.now }
 {
-    if s.len() < 2 {
-        return false;
+    if !well_formed(s, base) {
+        return Err(NumberError::Malformed);
     }
-    if s[0] != b'0' {
-        return false;
-    }
-    s[1] == b'x'
+    value(s, base)
 }
 
-// The number of the digits from a place on.
-fn parse_digits(s: &[u8], from: usize, base: u64) -> Number
-    requires { 0 < base }
-    ensures { result ≡ number_in base (drop from s.now) }
-{
-    if well_formed(s, from, base) {
-        value(s, from, base)
-    } else {
-        Number::Malformed
-    }
-}
-
-// Whether what stands from a place on has the form of digits.
-fn well_formed(s: &[u8], from: usize, base: u64) -> bool
-    ensures { result ≡ formed base false (drop from s.now) }
+// Whether a text has the form of digits, with each `_` between two.
+fn well_formed(s: &[u8], base: u32) -> bool
+    requires lt_base { 1 < base }
+    requires base_bound { base ≤ 16 }
+    ensures { result ≡ formed base false s.now }
 {
     let mut after = false;
-    let mut i = from;
-    while i < s.len() {
-        let c = s[i];
-        i += 1;
-        if digit(c) < base {
+    for &c in s {
+        if digit(c, base).is_some() {
             after = true;
-        } else {
-            if !separates(base, after, c) {
-                return false;
-            }
+        } else if separates(base, after, c) {
             after = false;
+        } else {
+            return false;
         }
     }
     after
 }
 
-// The value of the digits from a place on, if it is below 2^64.
-fn value(s: &[u8], from: usize, base: u64) -> Number
-    requires { 0 < base }
-    ensures { result ≡ bounded (value_from base 0 (drop from s.now)) }
+// The value of the digits of a text, if it is below 2^64.
+fn value(s: &[u8], base: u32) -> Result<u64, NumberError>
+    requires lt_base { 1 < base }
+    requires base_bound { base ≤ 16 }
+    ensures { result ≡ bounded (value_from base 0 s.now) }
 {
-    let limit = LARGEST / base;
-    let mut n: u64 = 0;
-    let mut i = from;
-    while i < s.len() {
-        let d = digit(s[i]);
-        i += 1;
-        if d < base {
-            if limit < n {
-                return Number::TooLarge;
-            }
-            let high = n * base;
-            if LARGEST - high < d {
-                return Number::TooLarge;
-            }
-            n = high + d;
+    let mut n = 0u64;
+    for &c in s {
+        if let Some(d) = digit(c, base) {
+            n = with_digit(n, base, d).ok_or(NumberError::TooLarge)?;
         }
     }
-    Number::Value(n)
+    Ok(n)
 }
 
-// The value of a character as a digit; 16 where it is none.
-fn digit(c: u8) -> u64
-    ensures { result ≡ digit_of c }
+// A value with one more digit, if it is below 2^64.
+fn with_digit(n: u64, base: u32, d: u32) -> Option<u64>
+    ensures { SomeIff result (n * base + d < 2 ^ 64) (n * base + d) }
 {
-    match c {
-        b'0'..=b'9' => (c - 48) as u64,
-        b'A'..=b'F' => (c - 55) as u64,
-        b'a'..=b'f' => (c - 87) as u64,
-        _ => 16,
-    }
+    n.checked_mul(u64::from(base))?.checked_add(u64::from(d))
+}
+
+// The value of a character as a digit of a base.
+fn digit(c: u8, base: u32) -> Option<u32>
+    requires lt_base { 1 < base }
+    requires base_bound { base ≤ 16 }
+    ensures { result ≡ digit_in base c }
+{
+    char::from(c).to_digit(base)
 }
 
 // Whether a character is a `_` between the digits of a hexadecimal number.
-fn separates(base: u64, after: bool, c: u8) -> bool
+#[tactic(auto, unfolding(crate::specs::Numbers::separates))]
+fn separates(base: u32, after: bool, c: u8) -> bool
     ensures { result ≡ separates_of base after c }
 {
-    if !after {
-        return false;
-    }
-    if base != 16 {
-        return false;
-    }
-    c == b'_'
-}
-
-// The digits of a number, at the end of the bytes, from the start on.
-#[derive(Clone, Copy)]
-pub struct Digits {
-    pub bytes: [u8; 20],
-    pub start: usize,
+    after && base == 16 && c == b'_'
 }
 
 // A number in lower-case hexadecimal, with no `0x` and no leading zeros.
+// Two of one line over `spell`, this and the next, for the bases that `hex_of` and `decimal_of` are of.
 pub fn hex(n: u64) -> Digits
     ensures { result ≡ ended (hex_of n) }
 {
@@ -151,6 +120,7 @@ pub fn decimal(n: u64) -> Digits
 }
 
 // A number in a base in which 20 digits hold it, from the last digit to the first.
+// Not by Display, which prints to a formatter: `hex` and `decimal` promise each byte (`hex_of`, `decimal_of`).
 fn spell(n: u64, base: u64) -> Digits
     requires lt_base { 1 < base }
     requires base_bound { base ≤ 16 }
@@ -160,6 +130,7 @@ fn spell(n: u64, base: u64) -> Digits
     let mut bytes = [0u8; 20];
     let mut start: usize = 19;
     let mut rest = n;
+    // No `for` over the places: they end where the number does, and the end of such a loop would never be reached.
     while base <= rest {
         bytes[start] = glyph(rest % base);
         start -= 1;
@@ -170,6 +141,7 @@ fn spell(n: u64, base: u64) -> Digits
 }
 
 // The character of a digit.
+#[tactic(auto, unfolding(crate::specs::Printed::glyph))]
 fn glyph(d: u64) -> u8
     requires { d < 16 }
     ensures { result ≡ glyph_of d }

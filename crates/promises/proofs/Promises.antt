@@ -16,8 +16,8 @@ use Rattle.lanes.proofs.LowestBit.{first_set}
 use Rattle.search.proofs.First.{first_below}
 use Rattle.access.specs.declared.Refusal.{Refusal}
 use Rattle.access.specs.declared.Refusal.TheVariants as refusal
-use Rattle.access.specs.declared.Verdict.{Verdict}
-use Rattle.access.specs.declared.Verdict.TheVariants as verdict
+use Rattle.access.specs.declared.Written.{Written}
+use Rattle.access.specs.declared.Written.TheVariants.{Plain, Changed}
 use Rattle.access.specs.Access.{permitted}
 use Rattle.access.specs.Refusal.{first_of, refusal_number}
 use Rattle.admission.specs.Refusals.{bridge_refusals, input_refusals, node_input_refusals}
@@ -25,8 +25,8 @@ use Rattle.cores.specs.declared.Core.{Core}
 use Rattle.cores.specs.Core as cores
 use Rattle.bridge_registers.specs.declared.Chip.{Chip}
 use Rattle.bridge_registers.specs.declared.Chip.TheVariants.{Chip0, Chip1}
-use Rattle.bridge_registers.specs.declared.Written.{Written}
-use Rattle.bridge_registers.specs.declared.Written.TheVariants.{Plain, Changed}
+use Rattle.bridge_registers.specs.declared.Cell.{Cell}
+use Rattle.bridge_registers.specs.declared.Change.{Change}
 use Rattle.bridge_registers.specs.Registers.{distributed, in_service_at, row_of, sized, written_of}
 use Rattle.bridge.specs.declared.Bridge.{Bridge}
 use Rattle.bridge.specs.Sources as sources
@@ -39,7 +39,7 @@ use Rattle.tree.specs.declared.Write.TheVariants as write
 use Rattle.tree.specs.declared.Change.TheVariants as change
 use Rattle.tree.specs.Tree as tree
 use Rattle.device.specs.declared.Device.{Device}
-use Rattle.answers.specs.declared.Outcome.TheVariants.{Value, Refused}
+use Rattle.std.specs.Prelude.{Result, Ok, Err, ⊤}
 use Rattle.steps.specs.declared.Step.TheVariants.{BridgeRead}
 use Rattle.steps.specs.declared.Plan.{Plan}
 use Rattle.steps.specs.declared.Plan.TheVariants.{Refuse, ReadCore, WriteCore, ReadTree, WriteTree, ChangeTree, Window, Reset}
@@ -51,11 +51,11 @@ use Rattle.promises.specs.Promises.{Alternating, BesideBridge, BesideNode, Bridg
 
 -- ---- refused steps
 
-accepted : {A : Type 0} (v : ℕ) (reason : Refusal) → Value v ≡ Refused reason → A
+accepted : {A : Type 0} (v : ℕ) (reason : Refusal) → Ok v ≡ Err reason → A
 accepted v reason e = let z : ◌≡◌ {A = ℕ} 0 1 = cc in absurd (omega arith)
 
 -- only a plan that changes nothing answers with a refusal
-refused_plan : (d : Device) (p : Plan) (reason : Refusal) → outcome_of d p ≡ Refused reason → next_of d p ≡ d
+refused_plan : (d : Device) (p : Plan) (reason : Refusal) → outcome_of d p ≡ Err reason → next_of d p ≡ d
 unfolding outcome_of next_of
 refused_plan d (Refuse f) reason e = refl
 refused_plan d (ReadCore register core width) reason e = refl
@@ -179,7 +179,7 @@ pin_lines d s c p h l = let t = (step_of d s).device.tree in rw (pin_bit t c p h
 
 -- a read of INTISR_CHIP0 or INTISR_CHIP1 is accepted, and gives a word of 64 bits
 pub reads : (d : Device) (chip : Chip)
-    → (step_of d (BridgeRead (in_service_at chip))).answer.outcome ≡ Value (sources.read_of d.tree.bridge (in_service_at chip))
+    → (step_of d (BridgeRead (in_service_at chip))).answer.outcome ≡ Ok (sources.read_of d.tree.bridge (in_service_at chip))
 unfolding step_of answered_of decide_of bridge_plan bridge_refusals row_of permitted sized distributed outcome_of tree.read_of
 reads d Chip0 = refl
 reads d Chip1 = refl
@@ -190,7 +190,7 @@ reads_lt b Chip0 = word_lt 64 _
 reads_lt b Chip1 = word_lt 64 _
 
 -- the outcome of a search in a word
-search_in : (w : ℕ) → w < 2 ^ 64 → Searched w (cond (some 64 (bit w)) (Value (first 64 (bit w))) (Refused refusal.NoneInService))
+search_in : (w : ℕ) → w < 2 ^ 64 → Searched w (cond (some 64 (bit w)) (Ok (first 64 (bit w))) (Err refusal.NoneInService))
 unfolding outcome_number outcome_data refusal_number
 search_in w h =
     cases
@@ -252,17 +252,17 @@ unsettled : (n : Node) → Settles n n
 unsettled n = (refl, λ i l h. refl)
 
 -- a plan that is refused, or reaches the bridge
-written_beside : (d : Device) (v : Verdict) (w : Written) → BesideBridge d (next_of d (planned v (written_plan w)))
+written_beside : (d : Device) (v : Result ⊤ Refusal) (w : Written Cell Change) → BesideBridge d (next_of d (planned v (written_plan w)))
 unfolding next_of written_plan
-written_beside d (verdict.Refused reason) w = ((refl, refl), refl, unsettled _, refl)
-written_beside d verdict.Accepted (Plain e) = left d (WriteTree (write.Bridge e))
-written_beside d verdict.Accepted (Changed c) = left d (ChangeTree (change.Bridge c))
+written_beside d (Err reason) w = ((refl, refl), refl, unsettled _, refl)
+written_beside d (Ok accepted) (Plain e) = left d (WriteTree (write.Bridge e))
+written_beside d (Ok accepted) (Changed c) = left d (ChangeTree (change.Bridge c))
 
-input_beside : (d : Device) (v : Verdict) (i : ℕ) (level : Bool)
+input_beside : (d : Device) (v : Result ⊤ Refusal) (i : ℕ) (level : Bool)
     → BesideBridge d (next_of d (planned v (ChangeTree (change.Input level i))))
 unfolding next_of
-input_beside d (verdict.Refused reason) i level = ((refl, refl), refl, unsettled _, refl)
-input_beside d verdict.Accepted i level = left d (ChangeTree (change.Input level i))
+input_beside d (Err reason) i level = ((refl, refl), refl, unsettled _, refl)
+input_beside d (Ok accepted) i level = left d (ChangeTree (change.Input level i))
 
 pub bridge_steps : BridgeSteps
 unfolding step_of answered_of decide_of bridge_plan input_plan
@@ -271,11 +271,11 @@ bridge_steps d = (
   λ i level. input_beside d (first_of (input_refusals i)) i level,
 )
 
-node_input_beside : (d : Device) (v : Verdict) (i : ℕ) (level : Bool)
+node_input_beside : (d : Device) (v : Result ⊤ Refusal) (i : ℕ) (level : Bool)
     → BesideNode d (next_of d (planned v (ChangeTree (change.NodeInput level i))))
 unfolding next_of
-node_input_beside d (verdict.Refused reason) i level = ((refl, refl), refl, refl, refl)
-node_input_beside d verdict.Accepted i level = left d (ChangeTree (change.NodeInput level i))
+node_input_beside d (Err reason) i level = ((refl, refl), refl, refl, refl)
+node_input_beside d (Ok accepted) i level = left d (ChangeTree (change.NodeInput level i))
 
 pub node_inputs : NodeInputs
 unfolding step_of answered_of decide_of node_input_plan

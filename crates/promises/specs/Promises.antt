@@ -3,7 +3,7 @@
 --   IpiLines, BridgeLines, PinLines   a line is high exactly if an enabled, pending cause is routed to it (demand 2)
 --   WhichSource      a search is refused exactly if INTISR_CHIPk reads 0, and else gives its lowest source (request Q-5)
 --   Separation       a step leaves the parts of the device that its plan does not name; BridgeSteps, NodeInputs, the same by the kind of step
-use Rattle.std.specs.Prelude.{ℕ, ◌+◌, ◌*◌, ◌<◌, ◌≤◌, ◌≡◌, ◌↔◌, Bool, true, false, cond, eqb}
+use Rattle.std.specs.Prelude.{ℕ, ◌+◌, ◌*◌, ◌<◌, ◌≤◌, ◌≡◌, ◌↔◌, Bool, true, false, cond, eqb, Result, Ok, Err}
 use Rattle.bits.specs.Bits.{bit, digit}
 use Rattle.access.specs.declared.Refusal.{Refusal}
 use Rattle.cores.specs.declared.Core.{Core}
@@ -21,8 +21,6 @@ use Rattle.tree.specs.declared.Write.TheVariants as write
 use Rattle.tree.specs.declared.Change.TheVariants as change
 use Rattle.tree.specs.Tree.{lines_of}
 use Rattle.device.specs.declared.Device.{Device}
-use Rattle.answers.specs.declared.Outcome.{Outcome}
-use Rattle.answers.specs.declared.Outcome.TheVariants.{Value, Refused}
 use Rattle.steps.specs.declared.Step.{Step}
 use Rattle.steps.specs.declared.Step.TheVariants.{BridgeRead, BridgeWrite, Input, NodeInput, Which}
 use Rattle.steps.specs.declared.Plan.{Plan}
@@ -44,7 +42,7 @@ pub record Unchanged (d : Device) (s : Step) : Type 0 where
   pub answer : (step_of d s).answer ≡ (answered_of d (step_of d s).answer.outcome 0).answer
 
 abbrev pub RefusedSteps : Type 0
-RefusedSteps = (d : Device) (s : Step) (reason : Refusal) → (step_of d s).answer.outcome ≡ Refused reason → Unchanged d s
+RefusedSteps = (d : Device) (s : Step) (reason : Refusal) → (step_of d s).answer.outcome ≡ Err reason → Unchanged d s
 
 -- ---- the lines
 
@@ -111,7 +109,7 @@ pub record Lowest (w source : ℕ) : Type 0 where
   pub no_lower : (i : ℕ) → i < source → bit w i ≡ false
 
 -- refused, with 9, exactly if the word is 0; else accepted, with the lowest source there as the value
-abbrev pub Searched : ℕ → Outcome → Type 0
+abbrev pub Searched : ℕ → Result ℕ Refusal → Type 0
 Searched w outcome =
     (outcome_number outcome ≡ 9 ↔ w ≡ 0) × ((w ≡ 0 → ⊥) → (outcome_number outcome ≡ 0) × Lowest w (outcome_data outcome))
 
@@ -119,7 +117,7 @@ Searched w outcome =
 abbrev pub WhichSource : Type 0
 WhichSource =
     (d : Device) (chip : Chip)
-    → (w : ℕ) × ((step_of d (BridgeRead (in_service_at chip))).answer.outcome ≡ Value w) × Searched w (step_of d (Which chip)).answer.outcome
+    → (w : ℕ) × ((step_of d (BridgeRead (in_service_at chip))).answer.outcome ≡ Ok w) × Searched w (step_of d (Which chip)).answer.outcome
 
 -- ---- separation
 

@@ -10,7 +10,8 @@ use Rattle.order.specs.Viewed.{Viewed, perform}
 use Rattle.order.proofs.Blocks.{block_viewed}
 use Rattle.order.proofs.Rule.{view_rule}
 use Rattle.order.proofs.Writes.{answers_stay, listed_written}
-use Rattle.ipi_registers.specs.declared.Effect as ipi
+use Rattle.access.specs.declared.Effect.{Effect}
+use Rattle.ipi_registers.specs.declared.Cell as ipi
 use Rattle.cores.specs.Core as cores
 use Rattle.bridge.specs.Changes.{applied_of}
 use Rattle.node_registers.specs.declared.Cell as node
@@ -38,7 +39,7 @@ use Rattle.reorder.proofs.Cells.{Seen, apply, device_block, device_determined, o
 
 -- ---- a listed plan is its effect
 
-core_on : (d : Device) (c : ℕ) (e : ipi.Effect) → view_of (next_of d (WriteCore e c)) ≡ perform apply (effect_of (given_of (WriteCore e c))) (view_of d)
+core_on : (d : Device) (c : ℕ) (e : Effect ipi.Cell) → view_of (next_of d (WriteCore e c)) ≡ perform apply (effect_of (given_of (WriteCore e c))) (view_of d)
 unfolding view_of next_of given_of cores.applied_of
 core_on d c e = cases (eqb c 0) (λ q. rw q) (λ q. rw q)
 

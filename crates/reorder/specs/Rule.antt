@@ -6,10 +6,10 @@
 --   TurnsStay         no listed write moves a turn bit (request Q-6)
 --   Ordered           all of these, of one device: what `compared` in src/ promises of every device
 --   view_of            what is compared of a device: every cell but the latches of the node
-use Rattle.std.specs.Prelude.{ℕ, ◌≡◌, ◌↔◌, List}
+use Rattle.std.specs.Prelude.{ℕ, ◌≡◌, ◌↔◌, List, Result}
 use Rattle.order.specs.Order.{All, AnswersStay, ClashFree, SameEnd, run}
 use Rattle.order.specs.Viewed.{Written}
-use Rattle.answers.specs.declared.Outcome.{Outcome}
+use Rattle.access.specs.declared.Refusal.{Refusal}
 use Rattle.answers.specs.Answers.{first_four}
 use Rattle.node.specs.Cells.{with_latch}
 use Rattle.tree.specs.Tree.{with_node}
@@ -28,7 +28,7 @@ view_of d = with_tree d (with_node d.tree (with_latch d.tree.node 0))
 abbrev pub next : Step → Device → Device
 next s d = (step_of d s).device
 
-abbrev pub outcome : Step → Device → Outcome
+abbrev pub outcome : Step → Device → Result ℕ Refusal
 outcome s d = (step_of d s).answer.outcome
 
 -- From d, all orders of a list of listed writes end in one state, seen through view_of, exactly when no two of them give opposite values to
@@ -49,7 +49,7 @@ AcceptanceStays d = AnswersStay outcome next (Listed d) d
 abbrev pub LinesAgree : Device → Type 0
 LinesAgree d =
     (ps qs : List Step) → view_of (run next ps d) ≡ view_of (run next qs d)
-    → (o : Outcome) (moved : ℕ) → first_four (answered_of (run next ps d) o moved).answer ≡ first_four (answered_of (run next qs d) o moved).answer
+    → (o : Result ℕ Refusal) (moved : ℕ) → first_four (answered_of (run next ps d) o moved).answer ≡ first_four (answered_of (run next qs d) o moved).answer
 
 -- no listed write moves a turn bit: none takes a request of the bridge from 1 to 0
 abbrev pub TurnsStay : Device → Type 0

@@ -4,6 +4,7 @@
 use Rattle.std.specs.Prelude.{ℕ, ◌≡◌, Bool, true, false, cond, ◌&&◌, eqb}
 use Rattle.std.proofs.Math.Option.{Option, none, some}
 use Rattle.bits.specs.Bits.{digit}
+use Rattle.access.specs.Access.{effect}
 use Rattle.order.specs.Cells as order
 use Rattle.ipi_registers.specs.declared.Cell as ipi
 use Rattle.tree.specs.declared.Write.{Write}
@@ -26,17 +27,21 @@ use Rattle.reorder.specs.Cells.{same, width}
 abbrev pub of_core : ℕ → ipi.Cell → Cell
 of_core c cell = cond (eqb c 0) (Core0 cell) (Core1 cell)
 
+-- bits of a cell
+abbrev pub bits_of : Cell → ℕ → ℕ → Given
+bits_of cell mask bits = Bits (effect cell mask bits)
+
 -- the gate is given a value where the write reaches it
 unfoldable pub tree_given : Write → Given
-tree_given (write.Bridge e) = Bits (Bridge e.cell) e.mask e.bits
-tree_given (write.Gate mask value) = cond mask (Bits Gate 1 (digit value)) Nothing
-tree_given (write.Node e) = Bits (Node e.cell) e.mask e.bits
+tree_given (write.Bridge e) = bits_of (Bridge e.cell) e.mask e.bits
+tree_given (write.Gate mask value) = cond mask (bits_of Gate 1 (digit value)) Nothing
+tree_given (write.Node e) = bits_of (Node e.cell) e.mask e.bits
 
 -- A refused write may stand in a list, and gives no bit a value. Reads, changes that are not plain (an accepted write to SOFT_INT, INTEDGE,
 -- INTCLR, AUTO_CTRL or the node's Intedge, an input change of either kind), searches, the window switch and a reset are not in such lists.
 unfoldable pub given_of : Plan → Given
 given_of (Refuse reason) = Nothing
-given_of (WriteCore e core) = Bits (of_core core e.cell) e.mask e.bits
+given_of (WriteCore e core) = bits_of (of_core core e.cell) e.mask e.bits
 given_of (WriteTree w) = tree_given w
 given_of (ReadCore register core width) = NotListed
 given_of (ReadTree read) = NotListed
@@ -52,7 +57,7 @@ given_in opened s = given_of (decide_of opened s)
 abbrev pub effect_of : Given → Option (order.Effect Cell)
 effect_of NotListed = none
 effect_of Nothing = none
-effect_of (Bits cell mask bits) = some (order.effect cell mask bits)
+effect_of (Bits e) = some (order.effect e.cell e.mask e.bits)
 
 -- the value that a step from d gives a bit of a cell, if any
 abbrev pub gives : Device → Step → order.Bit Cell → Option Bool
@@ -77,7 +82,7 @@ is_write step.Reset = false
 abbrev pub listed : Given → Bool
 listed NotListed = false
 listed Nothing = true
-listed (Bits cell mask bits) = true
+listed (Bits e) = true
 
 unfoldable pub listed_in : Bool → Step → Bool
 listed_in opened s = is_write s && listed (given_in opened s)

@@ -2,18 +2,14 @@
 // holds of every device.
 #![tactic(auto)]
 
-ghost use Rattle.std.specs.Prelude.{◌≡◌, true, length};
-ghost use Rattle.device.specs.Device.{with_tree};
-ghost use Rattle.node.specs.Cells.{with_latch};
-ghost use Rattle.tree.specs.Tree.{with_node};
+ghost use Rattle.std.specs.Prelude.{◌≡◌, length};
 ghost use Rattle.reorder.specs.Private.{Whole};
 ghost use Rattle.reorder.specs.Rule.{Ordered, view_of};
 ghost use Rattle.reorder.specs.Writes as writes;
 
 use device::Device;
-use node::Node;
 use steps::{Plan, Step};
-use tree::{Tree, Write};
+use tree::Write;
 
 // A cell that plain writes reach.
 #[derive(Clone, Copy)]
@@ -25,131 +21,83 @@ pub enum Cell {
     Node(node_registers::Cell),
 }
 
-// What a step gives, if the order rule covers it: the bits of the cell that are in mask take the values in bits.
+// Some bits of a cell take given values.
+pub type Effect = access::Effect<Cell>;
+
+// What a step gives, if the order rule covers it: a refused write and one that the gate's mask leaves out give nothing. Three cases of its own: an
+// Option of an Option of an Effect would name neither of the first two.
 #[derive(Clone, Copy)]
 pub enum Given {
     NotListed,
     Nothing,
-    Bits { cell: Cell, mask: u64, bits: u64 },
+    Bits(Effect),
 }
 
 // ---- the rule holds of every device
 
-fn four(mail: [u64; 4]) -> bool
-    ensures { (result ≡ true) × (length mail ≡ 4) }
-{
-    true
-}
-
-fn sixty_four(routes: [u8; 64]) -> bool
-    ensures { (result ≡ true) × (length routes ≡ 64) }
-{
-    true
-}
-
-fn thirty_two(routes: [u8; 32]) -> bool
-    ensures { (result ≡ true) × (length routes ≡ 32) }
-{
-    true
-}
+// An array has the length of its type.
+fn sized<T: Copy, const N: usize>(_words: [T; N])
+    ensures { length _words ≡ N }
+{}
 
 // Every value of the type has arrays of their lengths, which is all that the rule asks of a device.
-fn whole(d: Device) -> bool
-    ensures { (result ≡ true) × Whole d }
+fn whole(d: Device)
+    ensures { Whole d }
 {
-    let core0 = d.core0;
-    let core1 = d.core1;
-    let tree = d.tree;
-    let b = tree.bridge;
-    let n = tree.node;
-    let mail0 = core0.mail;
-    let mail1 = core1.mail;
-    let routes = b.routes;
-    let node_routes = n.routes;
-    four(mail0);
-    four(mail1);
-    sixty_four(routes);
-    thirty_two(node_routes)
-}
-
-fn with_tree(mut d: Device, tree: Tree) -> Device
-    ensures { result ≡ with_tree d tree }
-{
-    d.tree = tree;
-    d
-}
-
-fn with_node(mut tree: Tree, node: Node) -> Tree
-    ensures { result ≡ with_node tree node }
-{
-    tree.node = node;
-    tree
-}
-
-fn without_latches(mut node: Node) -> Node
-    ensures { result ≡ with_latch node 0 }
-{
-    node.latch = 0;
-    node
+    sized(d.core0.mail);
+    sized(d.core1.mail);
+    sized(d.tree.bridge.routes);
+    sized(d.tree.node.routes);
 }
 
 // What the order rule compares of a device; and the promise is the order rule itself, of every device that there is.
-pub fn compared(d: Device) -> Device
+#[tactic(auto, using(crate::proofs::Rule::ordered), unfolding(crate::specs::Rule::view_of))]
+pub fn compared(mut d: Device) -> Device
     ensures { (result ≡ view_of d) × Ordered d }
 {
     whole(d);
-    let tree = d.tree;
-    let node = tree.node;
-    with_tree(d, with_node(tree, without_latches(node)))
+    d.tree.node.latch = 0;
+    d
 }
 
 // ---- what a write gives
 
-fn bits_of(cell: Cell, mask: u64, bits: u64) -> Given
-    ensures { result ≡ Given.Bits cell mask bits }
-{
-    Given::Bits {
-        cell: cell,
-        mask: mask,
-        bits: bits,
-    }
-}
-
+#[tactic(auto, unfolding(crate::specs::Writes::given_of))]
 fn core_given(effect: ipi_registers::Effect, core: u64) -> Given
     ensures { result ≡ writes.given_of (Plan.WriteCore effect core) }
 {
-    let cell = effect.cell;
-    if core == 0 {
-        return bits_of(Cell::Core0(cell), effect.mask, effect.bits);
-    }
-    bits_of(Cell::Core1(cell), effect.mask, effect.bits)
+    let cell = if core == 0 {
+        Cell::Core0(effect.cell)
+    } else {
+        Cell::Core1(effect.cell)
+    };
+    Given::Bits(Effect::new(cell, effect.mask, effect.bits))
 }
 
-fn gate_given(mask: bool, bit: bool) -> Given
-    ensures { result ≡ writes.tree_given (Write.Gate mask bit) }
-{
-    if mask {
-        return bits_of(Cell::Gate, 1, bit as u64);
-    }
-    Given::Nothing
-}
-
+#[tactic(auto, unfolding(crate::specs::Writes::tree_given))]
 fn tree_given(write: Write) -> Given
     ensures { result ≡ writes.tree_given write }
 {
     match write {
-        Write::Bridge(effect) => {
-            let cell = effect.cell;
-            bits_of(Cell::Bridge(cell), effect.mask, effect.bits)
-        }
-        Write::Gate { mask, bit } => gate_given(mask, bit),
-        Write::Node(effect) => {
-            let cell = effect.cell;
-            bits_of(Cell::Node(cell), effect.mask, effect.bits)
-        }
+        Write::Bridge(effect) => Given::Bits(Effect::new(
+            Cell::Bridge(effect.cell),
+            effect.mask,
+            effect.bits,
+        )),
+        Write::Gate {
+            mask: false,
+            bit: _,
+        } => Given::Nothing,
+        Write::Gate { mask: true, bit } => Given::Bits(Effect::new(Cell::Gate, 1, bit as u64)),
+        Write::Node(effect) => Given::Bits(Effect::new(
+            Cell::Node(effect.cell),
+            effect.mask,
+            effect.bits,
+        )),
     }
 }
 
+#[tactic(auto, unfolding(crate::specs::Writes::given_of))]
 fn plan_given(plan: Plan) -> Given
     ensures { result ≡ writes.given_of plan }
 {
@@ -157,19 +105,16 @@ fn plan_given(plan: Plan) -> Given
         Plan::Refuse(_) => Given::Nothing,
         Plan::WriteCore { effect, core } => core_given(effect, core),
         Plan::WriteTree(write) => tree_given(write),
-        Plan::ReadCore {
-            register: _,
-            core: _,
-            width: _,
-        } => Given::NotListed,
-        Plan::ReadTree(_) => Given::NotListed,
-        Plan::ChangeTree(_) => Given::NotListed,
-        Plan::Window(_) => Given::NotListed,
-        Plan::Reset => Given::NotListed,
+        Plan::ReadCore { .. }
+        | Plan::ReadTree(_)
+        | Plan::ChangeTree(_)
+        | Plan::Window(_)
+        | Plan::Reset => Given::NotListed,
     }
 }
 
 // What a step gives, from the window switch and the step alone.
+#[tactic(auto, unfolding(crate::specs::Writes::given_in))]
 pub fn bits_given(second_open: bool, step: Step) -> Given
     ensures { result ≡ writes.given_in second_open step }
 {
@@ -181,66 +126,22 @@ pub fn bits_given(second_open: bool, step: Step) -> Given
 fn is_write(step: Step) -> bool
     ensures { result ≡ writes.is_write step }
 {
-    match step {
-        Step::BusWrite {
-            address: _,
-            width: _,
-            value: _,
-        } => true,
-        Step::PrivateWrite {
-            core: _,
-            offset: _,
-            width: _,
-            value: _,
-        } => true,
-        Step::BridgeWrite {
-            register: _,
-            value: _,
-        } => true,
-        Step::BusRead {
-            address: _,
-            width: _,
-        } => false,
-        Step::PrivateRead {
-            core: _,
-            offset: _,
-            width: _,
-        } => false,
-        Step::BridgeRead { register: _ } => false,
-        Step::Input {
-            source: _,
-            level: _,
-        } => false,
-        Step::NodeInput {
-            source: _,
-            level: _,
-        } => false,
-        Step::Which { chip: _ } => false,
-        Step::Window { open: _ } => false,
-        Step::Reset => false,
-    }
+    matches!(
+        step,
+        Step::BusWrite { .. } | Step::PrivateWrite { .. } | Step::BridgeWrite { .. }
+    )
 }
 
 fn given_listed(given: Given) -> bool
     ensures { result ≡ writes.listed given }
 {
-    match given {
-        Given::NotListed => false,
-        Given::Nothing => true,
-        Given::Bits {
-            cell: _,
-            mask: _,
-            bits: _,
-        } => true,
-    }
+    !matches!(given, Given::NotListed)
 }
 
 // A write that may stand in a list of the order rule, refused ones included.
+#[tactic(auto, unfolding(crate::specs::Writes::listed_in))]
 pub fn listed(second_open: bool, step: Step) -> bool
     ensures { result ≡ writes.listed_in second_open step }
 {
-    if is_write(step) {
-        return given_listed(bits_given(second_open, step));
-    }
-    false
+    is_write(step) && given_listed(bits_given(second_open, step))
 }

@@ -1,72 +1,74 @@
--- The counts of a block's clashes as the loops build them, from the last write to the first: what one more write adds, and that they stay small.
-use Prim.Native.Nat.{ℕ, ◌+◌, ◌-◌, ◌≤◌, ◌<◌}
-use mathlib.Core.Path.{◌≡◌, sym, ap, ◌∙◌}
-use mathlib.Core.Bool.{Bool}
-use mathlib.Core.List.{List, [], ◌∷◌}
+-- The counts of a block's clashes as the loops build them: what one more write adds, and that they stay small.
+use Prim.Native.Nat.{ℕ, min, ◌+◌, ◌-◌, ◌≤◌, ◌<◌}
+use mathlib.Core.Path.{◌≡◌, refl, sym}
+use mathlib.Core.Bool.{Bool, true, false, true≢false}
+use mathlib.Core.List.{List, [], ◌∷◌, map}
 use native.Mathlib.Omega.{arith}
-use native.Mathlib.Nat.{sub-add_cancel}
 use native.Mathlib.Numerals.{add-one}
-use lib.ListN.{length, length-drop, length-map, get_or-map, drop, get_or, take}
-use lib.Seq.{drop-cons, drop-length, get_or-take, length-take-le, take_all}
+use lib.ListN.{length, length-drop, drop, get_or, take}
+use lib.Seq.{drop-cons}
+use Rattle.std.proofs.lemmas.List.{drop_all, take_all, take_min}
+use Rattle.std.specs.Prelude.{Option, Some, None, is_some}
 use Rattle.steps.specs.declared.Step.{Step}
 use Rattle.clashes.specs.declared.Clash.{Clash}
-use Rattle.clashes.specs.declared.Clash.TheVariants.{Free, On}
 use Rattle.clashes.specs.Clash.{clash_of}
 use Rattle.script.specs.Line.{line_step, line_steps}
 use Rattle.script.specs.Block.{clash_count, clashes_with, counted}
 
-pub counted_small : (c : Clash) → counted c ≤ 1
+pub counted_small : (c : Option Clash) → counted c ≤ 1
 unfolding counted
-counted_small Free = omega arith
-counted_small (On cell bits) = omega arith
+counted_small None = omega arith
+counted_small (Some clash) = omega arith
 
-with_small : (o : Bool) (w : Step) (ws : List Step) → clashes_with o w ws ≤ length ws
+pub counted_some : (c d : Option Clash) → d ≡ c → is_some d ≡ true → counted c ≡ 1
+unfolding counted
+counted_some None d e h = absurd (true≢false (sym (rw e at h)))
+counted_some (Some clash) d e h = refl
+
+pub counted_none : (c d : Option Clash) → d ≡ c → is_some d ≡ false → counted c ≡ 0
+unfolding counted
+counted_none None d e h = refl
+counted_none (Some clash) d e h = absurd (true≢false (rw e at h))
+
+pub with_small : (o : Bool) (w : Step) (lines : List (List ℕ)) → clashes_with o w (map line_step lines) ≤ length lines
 unfolding clashes_with
 with_small o w [] = omega arith
-with_small o w (v ∷ ws) = omega (arith, with_small o w ws, counted_small (clash_of o w v))
+with_small o w (v ∷ ws) = omega (arith, with_small o w ws, counted_small (clash_of o w (line_step v)))
+
+pub with_under : (o : Bool) (w : Step) (lines : List (List ℕ)) (i : ℕ) → clashes_with o w (map line_step (drop i lines)) ≤ length lines
+with_under o w lines i = omega (arith, with_small o w (drop i lines), length-drop i lines)
+
+-- nothing is left behind the last line
+pub with_none : (o : Bool) (w : Step) (lines : List (List ℕ)) (i : ℕ) → length lines ≤ i → clashes_with o w (map line_step (drop i lines)) ≡ 0
+unfolding clashes_with
+with_none o w lines i h = rw (drop_all i lines h)
+
+pub count_none : (o : Bool) (lines : List (List ℕ)) (i : ℕ) → length lines ≤ i → clash_count o (map line_step (drop i lines)) ≡ 0
+unfolding clash_count
+count_none o lines i h = rw (drop_all i lines h)
+
+-- a slice from line k to the end
+pub to_end : (k : ℕ) (lines : List (List ℕ)) → take (length lines - k) (drop k lines) ≡ drop k lines
+to_end k lines = take_all (length lines - k) (drop k lines) (omega (arith, length-drop k lines))
 
 -- more lines than there are add nothing
-pub steps_all : (m n : ℕ) (lines : List (List ℕ)) → length lines ≤ m → length lines ≤ n → line_steps m lines ≡ line_steps n lines
+pub steps_first : (n m : ℕ) (lines : List (List ℕ)) → length lines ≡ m → map line_step (take (min n m) lines) ≡ line_steps n lines
 unfolding line_steps
-steps_all m n lines h k = rw (take_all m lines h, take_all n lines k)
+steps_first n m lines e = rw (← e, take_min n lines)
 
--- the first n of at least n lines
-module _ (n : ℕ) (lines : List (List ℕ)) (h : n ≤ length lines) where
-  steps_length : length (line_steps n lines) ≡ n
-  unfolding line_steps
-  steps_length = length-map (take n lines) line_step ∙ length-take-le n lines h
+-- from line i on: that line, and those behind it
+module _ (o : Bool) (lines : List (List ℕ)) (i : ℕ) (h : i < length lines) where
+  one_left : drop i lines ≡ get_or lines i [] ∷ drop (i + 1) lines
+  one_left = rw add-one (drop-cons lines i [] h)
 
-  steps_at : (j : ℕ) → j < n → get_or (line_steps n lines) j (line_step []) ≡ line_step (get_or lines j [])
-  unfolding line_steps
-  steps_at j l = get_or-map line_step (take n lines) j [] ∙ ap line_step (get_or-take n lines j [] l)
-
-  -- nothing is left behind the last write
-  none_left : drop n (line_steps n lines) ≡ []
-  none_left = ap (λ (k : ℕ). drop k (line_steps n lines)) (sym steps_length) ∙ drop-length (line_steps n lines)
-
-  -- from one write on: that write, and those behind it
-  one_left : (j : ℕ) → j < n → drop j (line_steps n lines) ≡ line_step (get_or lines j []) ∷ drop (j + 1) (line_steps n lines)
-  one_left j l =
-      rw (add-one, ← steps_at j l)
-      (drop-cons (line_steps n lines) j (line_step []) (rw steps_length l))
-
-  pub with_none : (o : Bool) (w : Step) → 0 ≡ clashes_with o w (drop n (line_steps n lines))
+  pub with_more : (w : Step)
+      → clashes_with o w (map line_step (drop i lines))
+      ≡ counted (clash_of o w (line_step (get_or lines i []))) + clashes_with o w (map line_step (drop (i + 1) lines))
   unfolding clashes_with
-  with_none o w = rw none_left
+  with_more w = rw one_left
 
-  pub with_more : (o : Bool) (w : Step) (j k : ℕ) → k ≡ clashes_with o w (drop j (line_steps n lines)) → 0 < j → j ≤ n
-      → k + counted (clash_of o w (line_step (get_or lines (j - 1) []))) ≡ clashes_with o w (drop (j - 1) (line_steps n lines))
-  unfolding clashes_with
-  with_more o w j k e p l = rw (one_left (j - 1) (omega arith), sub-add_cancel p, e) (omega arith)
-
-  pub with_below : (o : Bool) (w : Step) (j k : ℕ) → k ≡ clashes_with o w (drop j (line_steps n lines)) → k ≤ n
-  with_below o w j k e = omega (arith, with_small o w (drop j (line_steps n lines)), length-drop j (line_steps n lines), steps_length)
-
-  pub count_none : (o : Bool) → 0 ≡ clash_count o (drop n (line_steps n lines))
+  pub count_more :
+      clash_count o (map line_step (drop i lines))
+      ≡ clashes_with o (line_step (get_or lines i [])) (map line_step (drop (i + 1) lines)) + clash_count o (map line_step (drop (i + 1) lines))
   unfolding clash_count
-  count_none o = rw none_left
-
-  pub count_more : (o : Bool) (i k : ℕ) → k ≡ clash_count o (drop i (line_steps n lines)) → 0 < i → i ≤ n
-      → k + clashes_with o (line_step (get_or lines (i - 1) [])) (drop (i - 1 + 1) (line_steps n lines)) ≡ clash_count o (drop (i - 1) (line_steps n lines))
-  unfolding clash_count
-  count_more o i k e p l = rw (one_left (i - 1) (omega arith), sub-add_cancel p, e) (omega arith)
+  count_more = rw one_left

@@ -1,4 +1,5 @@
 -- The count of a list's clashes is 0 exactly if no two of its writes clash.
+use Rattle.std.specs.Prelude.{Option, Some, None}
 use mathlib.Core.Path.{◌≡◌, refl}
 use mathlib.Core.Bool.{Bool}
 use mathlib.Core.List.Memᴰ.{head as here}
@@ -8,32 +9,31 @@ use native.Mathlib.Omega.{arith}
 use Rattle.order.specs.Order.{◌∈◌}
 use Rattle.steps.specs.declared.Step.{Step}
 use Rattle.clashes.specs.declared.Clash.{Clash}
-use Rattle.clashes.specs.declared.Clash.TheVariants.{Free, On}
 use Rattle.clashes.specs.Clash.{clash_of}
 use Rattle.clashes.proofs.Clashes.{clash_itself, clash_turned, reorder_rule}
 use Rattle.device.specs.declared.Device.{Device}
 use Rattle.reorder.specs.Rule.{Ordered}
 use Rattle.script.specs.Block.{BlockRule, CountRule, clash_count, clashes_with, counted}
 
-uncounted : (c : Clash) → counted c ≡ 0 → c ≡ Free
+uncounted : (c : Option Clash) → counted c ≡ 0 → c ≡ None
 unfolding counted
-uncounted Free z = refl
-uncounted (On cell bits) z = absurd (omega arith)
+uncounted None z = refl
+uncounted (Some clash) z = absurd (omega arith)
 
 module _ (o : Bool) where
   -- w clashes with no write of a list that has no clash with it
-  with_zero : (w : Step) (ws : List Step) → clashes_with o w ws ≡ 0 → (b : Step) → b ∈ ws → clash_of o w b ≡ Free
+  with_zero : (w : Step) (ws : List Step) → clashes_with o w ws ≡ 0 → (b : Step) → b ∈ ws → clash_of o w b ≡ None
   unfolding clashes_with
   with_zero w [] z b m = elim m [ ]
   with_zero w (v ∷ ws) z b (here e) = rw e (uncounted (clash_of o w v) (omega arith))
   with_zero w (v ∷ ws) z b (there m) = with_zero w ws (omega arith) b m
 
-  with_free : (w : Step) (ws : List Step) → ((b : Step) → b ∈ ws → clash_of o w b ≡ Free) → clashes_with o w ws ≡ 0
+  with_free : (w : Step) (ws : List Step) → ((b : Step) → b ∈ ws → clash_of o w b ≡ None) → clashes_with o w ws ≡ 0
   unfolding clashes_with counted
   with_free w [] free = refl
   with_free w (v ∷ ws) free = rw (free v (here refl), with_free w ws (λ b m. free b (there m)))
 
-  zero_free : (ws : List Step) → clash_count o ws ≡ 0 → (a b : Step) → a ∈ ws → b ∈ ws → clash_of o a b ≡ Free
+  zero_free : (ws : List Step) → clash_count o ws ≡ 0 → (a b : Step) → a ∈ ws → b ∈ ws → clash_of o a b ≡ None
   unfolding clash_count
   zero_free [] z a b m n = elim m [ ]
   zero_free (w ∷ ws) z a b (here p) (here q) = rw (p, q) (clash_itself o w)
@@ -41,7 +41,7 @@ module _ (o : Bool) where
   zero_free (w ∷ ws) z a b (there m) (here q) = rw q (clash_turned o w a (with_zero w ws (omega arith) a m))
   zero_free (w ∷ ws) z a b (there m) (there n) = zero_free ws (omega arith) a b m n
 
-  free_zero : (ws : List Step) → ((a b : Step) → a ∈ ws → b ∈ ws → clash_of o a b ≡ Free) → clash_count o ws ≡ 0
+  free_zero : (ws : List Step) → ((a b : Step) → a ∈ ws → b ∈ ws → clash_of o a b ≡ None) → clash_count o ws ≡ 0
   unfolding clash_count
   free_zero [] free = refl
   free_zero (w ∷ ws) free =

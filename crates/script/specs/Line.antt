@@ -2,16 +2,18 @@
 -- where words are counted from 0: a register's name counts by its number. A form has the number of its kind of step (crates/numbered); the second
 -- forms of kinds 4, 5 and 7 come behind.
 --   forms   the step of each form     line_step   the step of a line     line_steps   those of a block's lines
-use Rattle.std.specs.Prelude.{ℕ, List, [], ◌∷◌, map, get_or, take}
+--   form_number, FormNames   the number of a form; the form of a number, or that no form has it
+use Rattle.std.specs.Prelude.{ℕ, ◌≡◌, ◌<◌, List, [], ◌∷◌, map, get_or, take, Option, None, Result, MatchResult}
 use Rattle.access.specs.Table.{Row, lookup, row}
 use Rattle.steps.specs.declared.Step.{Step}
 use Rattle.steps.specs.declared.Step.TheVariants.{Reset}
-use Rattle.numbered.specs.declared.Numbered.{Numbered}
-use Rattle.numbered.specs.declared.Numbered.TheVariants.{Unknown}
 use Rattle.numbered.specs.Numbered.{known_or, step_at}
+use Rattle.script.specs.declared.form.Form.{Form}
+use Rattle.script.specs.declared.form.Form.TheVariants as form
+use Rattle.script.specs.declared.form.UnknownForm.{UnknownForm}
 
 -- `at i` is the number at word i; `step_at` takes the kind, the unit, the place, the width and the value
-unfoldable pub forms : (ℕ → ℕ) → List (Row Numbered)
+unfoldable pub forms : (ℕ → ℕ) → List (Row (Option Step))
 forms at =
     row 0 (step_at 0 0 (at 2) (at 3) 0)  -- bus read ADDRESS WIDTH
     ∷ row 1 (step_at 1 0 (at 2) (at 3) (at 4))  -- bus write ADDRESS WIDTH VALUE
@@ -29,8 +31,12 @@ forms at =
     ∷ row 13 (step_at 7 0 0 0 0)  -- window closed
     ∷ []
 
-unfoldable pub form_step : List ℕ → Numbered
-form_step v = lookup Unknown (forms (λ i. get_or v i 0)) (get_or v 0 0)
+-- of a line's values, by the number of its form
+unfoldable pub step_in : List ℕ → ℕ → Option Step
+step_in v number = lookup None (forms (λ i. get_or v i 0)) number
+
+abbrev pub form_step : List ℕ → Option Step
+form_step v = step_in v (get_or v 0 0)
 
 -- a line that is unknown, by its form or by a number on it, is a reset
 unfoldable pub line_step : List ℕ → Step
@@ -39,3 +45,26 @@ line_step v = known_or Reset (form_step v)
 -- the steps of the first n lines
 unfoldable pub line_steps : ℕ → List (List ℕ) → List Step
 line_steps n lines = map line_step (take n lines)
+
+-- ---- the forms by themselves
+
+-- as `forms` counts them
+abbrev pub form_number : Form → ℕ
+form_number form.BusRead = 0
+form_number form.BusWrite = 1
+form_number form.PrivateRead = 2
+form_number form.PrivateWrite = 3
+form_number form.BridgeRead = 4
+form_number form.BridgeWrite = 5
+form_number form.Input = 6
+form_number form.WindowOpen = 7
+form_number form.Reset = 8
+form_number form.NodeInput = 9
+form_number form.Which = 10
+form_number form.SourceRead = 11
+form_number form.SourceWrite = 12
+form_number form.WindowClosed = 13
+
+-- the form that has the number, or the number where no form has it
+abbrev pub FormNames : ℕ → Result Form UnknownForm → Type 0
+FormNames number r = MatchResult r (λ form. form_number form ≡ number) (λ unknown. (unknown.0 ≡ number) × (13 < number))

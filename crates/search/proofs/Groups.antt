@@ -9,7 +9,7 @@ use borrow.Table.Steps.{cases}
 use borrow.Author.Tests.{lt-ltb, le-ltb, ltb-true, ltb-false}
 use Rattle.bits.specs.Bits.{first, some}
 use Rattle.bits.proofs.Some.{some_cong}
-use Rattle.lanes.proofs.LowestBit.{first_cong}
+use Rattle.bits.proofs.Lowest.{first_cong}
 use Rattle.search.specs.Groups.{GroupSearch, by_groups, first_group, in_group}
 use Rattle.search.proofs.First.{first_in, first_past, unset}
 

@@ -1,7 +1,11 @@
 -- A search by groups: n groups of m bits each. Bit j of group g is bit m * g + j.
+--   found   a number below n, as an Option: None where the search ended at n
 --   by_groups   first the group, then the bit in it     GroupSearch   it answers as a reading of all n * m bits would
-use Rattle.std.specs.Prelude.{ℕ, ◌+◌, ◌*◌, ◌≡◌, Bool, cond, ltb}
+use Rattle.std.specs.Prelude.{ℕ, ◌+◌, ◌*◌, ◌≡◌, Bool, cond, ltb, Option, Some, None}
 use Rattle.bits.specs.Bits.{first, some}
+
+abbrev pub found : ℕ → ℕ → Option ℕ
+found n i = cond (ltb i n) (Some i) None
 
 abbrev pub in_group : ℕ → (ℕ → Bool) → ℕ → ℕ → Bool
 in_group m f g j = f (m * g + j)

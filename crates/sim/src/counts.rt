@@ -1,15 +1,49 @@
-// Counts; the largest stays.
-pub(crate) fn more(n: u64) -> u64 {
-    if n < 0xffff_ffff_ffff_ffff {
-        return n + 1;
-    }
-    n
+// What a script has counted; at its largest a count stays.
+use std::fmt;
+
+#[derive(Clone, Copy, Default)]
+pub(crate) struct Counts {
+    steps: u64,
+    refused: u64,
+    errors: u64,
+    passed: u64,
+    failed: u64,
 }
 
-// A count that takes in a number that is not 0.
-pub(crate) fn counted(count: u64, n: u64) -> u64 {
-    if n == 0 {
-        return count;
+impl Counts {
+    pub(crate) fn count_step(&mut self, refused: bool) {
+        self.steps = self.steps.saturating_add(1);
+        if refused {
+            self.refused = self.refused.saturating_add(1);
+        }
     }
-    more(count)
+
+    pub(crate) fn count_error(&mut self) {
+        self.errors = self.errors.saturating_add(1);
+    }
+
+    pub(crate) fn count_judged(&mut self, met: bool) {
+        if met {
+            self.passed = self.passed.saturating_add(1);
+        } else {
+            self.failed = self.failed.saturating_add(1);
+        }
+    }
+}
+
+impl fmt::Display for Counts {
+    fn fmt<W: fmt::Write>(&self, f: &mut fmt::Formatter<W>) -> fmt::Result {
+        let Counts {
+            steps,
+            refused,
+            errors,
+            passed,
+            failed,
+        } = *self;
+        write!(f, "{steps} steps, {refused} refused, {errors} errors")?;
+        if passed != 0 || failed != 0 {
+            write!(f, ", {passed} passed, {failed} failed")?;
+        }
+        Ok(())
+    }
 }

@@ -1,13 +1,10 @@
-// Files that are read or written whole, and the line for one that cannot be.
-use crate::print::{
-    DENIED, DIRECTORY, FAULT, LINKS, LONG_NAME, NO_DIRECTORY, NO_FILE, NONE, UNREAD, UNWRITTEN,
-};
+// Files that are read or written whole, and what is wrong with one that cannot be.
 use std::fs::OpenFile;
 use std::io::{ErrorKind, Read, Write};
 use std::rt::Files;
-use std::{fs, io};
+use std::{fmt, fs, io, str};
 
-// Linux's numbers of the errors that have a line of their own.
+// Linux's numbers of the errors that have a line of their own. std's kinds are coarser.
 const ENOENT: i32 = 2;
 
 const EIO: i32 = 5;
@@ -22,96 +19,93 @@ const ENAMETOOLONG: i32 = 36;
 
 const ELOOP: i32 = 40;
 
-// How many bytes of a file were read, whether no more come, and the line for what went wrong, or NONE.
+// Why a file cannot be read or written: Unreadable and Unwritable for any other reason.
 #[derive(Clone, Copy)]
-pub(crate) struct Contents {
-    pub(crate) length: usize,
-    pub(crate) over: bool,
-    pub(crate) error: u64,
+pub(crate) enum FileError {
+    NotFound,
+    Denied,
+    Directory,
+    NotADirectory,
+    LongName,
+    Links,
+    InputOutput,
+    Unreadable,
+    Unwritable,
+    LongCapture,
 }
 
-// The line for an error of the system, and another one for an error that has none.
-fn line_of(error: io::Error, other: u64) -> u64 {
-    match error.raw_os_error() {
-        Some(ENOENT) => NO_FILE,
-        Some(EACCES) => DENIED,
-        Some(EISDIR) => DIRECTORY,
-        Some(ENOTDIR) => NO_DIRECTORY,
-        Some(ENAMETOOLONG) => LONG_NAME,
-        Some(ELOOP) => LINKS,
-        Some(EIO) => FAULT,
-        _ => other,
+impl fmt::Display for FileError {
+    fn fmt<W: fmt::Write>(&self, f: &mut fmt::Formatter<W>) -> fmt::Result {
+        f.write_str(match self {
+            FileError::NotFound => "no such file",
+            FileError::Denied => "permission denied",
+            FileError::Directory => "is a directory",
+            FileError::NotADirectory => "a part of the path is not a directory",
+            FileError::LongName => "the name is too long",
+            FileError::Links => "too many symbolic links",
+            FileError::InputOutput => "input or output error",
+            FileError::Unreadable => "cannot be read",
+            FileError::Unwritable => "cannot be written",
+            FileError::LongCapture => "longer than 4 MiB",
+        })
     }
 }
 
-// The line for a file that cannot be read.
-pub(crate) fn unread(error: io::Error) -> u64 {
-    line_of(error, UNREAD)
-}
-
-// The line after a read.
-fn after_read(got: io::Result<usize>) -> u64 {
-    match got {
-        Ok(_) => NONE,
-        Err(error) => unread(error),
+impl FileError {
+    // That of an error of the system which has a line of its own.
+    fn of_system(error: io::Error) -> Option<FileError> {
+        match error.raw_os_error()? {
+            ENOENT => Some(FileError::NotFound),
+            EACCES => Some(FileError::Denied),
+            EISDIR => Some(FileError::Directory),
+            ENOTDIR => Some(FileError::NotADirectory),
+            ENAMETOOLONG => Some(FileError::LongName),
+            ELOOP => Some(FileError::Links),
+            EIO => Some(FileError::InputOutput),
+            _ => None,
+        }
     }
-}
 
-fn so_far(length: usize, over: bool, error: u64) -> Contents {
-    Contents {
-        length,
-        over,
-        error,
+    pub(crate) fn of_read(error: io::Error) -> FileError {
+        FileError::of_system(error).unwrap_or(FileError::Unreadable)
     }
-}
 
-// The text of a path. std takes no path that is not UTF-8.
-fn path_text(path: &[u8]) -> io::Result<&str> {
-    match std::str::from_utf8(path) {
-        Ok(text) => Ok(text),
-        Err(_) => Err(io::Error::from(ErrorKind::InvalidFilename)),
+    fn of_write(error: io::Error) -> FileError {
+        FileError::of_system(error).unwrap_or(FileError::Unwritable)
     }
 }
 
 // Opens the file of a path to be read.
-pub(crate) fn open_read<R: Files>(rt: &R, path: &[u8]) -> io::Result<R::File> {
-    fs::open(rt, path_text(path)?)
+fn open<R: Files>(rt: &R, path: &str) -> Result<R::File, FileError> {
+    fs::open(rt, path).map_err(FileError::of_read)
 }
 
-// Makes or empties the file of a path to be written.
-fn open_overwrite<R: Files>(rt: &R, path: &[u8]) -> io::Result<R::File> {
-    fs::create(rt, path_text(path)?)
-}
-
-// Reads once, behind what was read before. Into a buffer that is full nothing comes, as at the end of the file.
-fn read_more(file: &mut impl Read, bytes: &mut [u8], before: usize) -> Contents {
-    if bytes.len() < before {
-        return so_far(before, true, NONE);
+// The same of a path that comes from outside. std takes no path that is not UTF-8.
+pub(crate) fn open_named<R: Files>(rt: &R, path: &[u8]) -> Result<R::File, FileError> {
+    match str::from_utf8(path) {
+        Ok(path) => open(rt, path),
+        Err(_) => Err(FileError::Unreadable),
     }
-    let got = file.read(&mut bytes[before..]);
-    let n = got.unwrap_or(0);
-    so_far(before + n, n == 0, after_read(got))
 }
 
-// Reads from an open file until it ends or the buffer is full.
-fn read_all(file: &mut impl Read, bytes: &mut [u8]) -> Contents {
-    let mut read = so_far(0, false, NONE);
+// Reads from an open file until it ends or the buffer is full, and answers how many bytes came.
+fn read_all(file: &mut impl Read, bytes: &mut [u8]) -> io::Result<usize> {
+    let mut length = 0;
     // A proved loop has to end: no file uses the turns up, since each but the last reads a byte.
     for _ in 0..u64::MAX {
-        if read.over {
+        let n = file.read(&mut bytes[length..])?;
+        if n == 0 {
             break;
         }
-        read = read_more(file, bytes, read.length);
+        length += n;
     }
-    read
+    Ok(length)
 }
 
 // Reads the file of a path into a buffer.
-pub(crate) fn read_file(rt: &impl Files, path: &[u8], bytes: &mut [u8]) -> Contents {
-    match open_read(rt, path) {
-        Ok(mut file) => read_all(&mut file, bytes),
-        Err(error) => so_far(0, true, unread(error)),
-    }
+pub(crate) fn read_file(rt: &impl Files, path: &str, bytes: &mut [u8]) -> Result<usize, FileError> {
+    let mut file = open(rt, path)?;
+    read_all(&mut file, bytes).map_err(FileError::of_read)
 }
 
 // Whether all that was written to a file has arrived: std closes a file without a word, so what is wrong with it has to be asked before.
@@ -126,21 +120,12 @@ fn arrived(file: &impl OpenFile) -> bool {
     }
 }
 
-// The line after a file was written.
-fn after_write(written: bool, arrived: bool) -> u64 {
-    if written & arrived {
-        return NONE;
-    }
-    UNWRITTEN
-}
-
-// Makes or overwrites the file of a path, and answers the line for what went wrong, or NONE.
-pub(crate) fn write_file(rt: &impl Files, path: &[u8], bytes: &[u8]) -> u64 {
-    match open_overwrite(rt, path) {
-        Ok(mut file) => {
-            let written = file.write_all(bytes).is_ok();
-            after_write(written, arrived(&file))
-        }
-        Err(error) => line_of(error, UNWRITTEN),
+// Makes or overwrites the file of a path.
+pub(crate) fn write_file(rt: &impl Files, path: &str, bytes: &[u8]) -> Result<(), FileError> {
+    let mut file = fs::create(rt, path).map_err(FileError::of_write)?;
+    if file.write_all(bytes).is_ok() && arrived(&file) {
+        Ok(())
+    } else {
+        Err(FileError::Unwritable)
     }
 }

@@ -1,5 +1,6 @@
 // The mixes of steps, as data: crates/speed and bench/baseline.c run the same rows. bench/run makes C of this file, so the numbers
-// are plain: no underscores, no names. A mix is 64 rows, in two halves: a table of twice the rows takes the check about three times as long.
+// are plain: no underscores, no names, and a row no struct. A mix is 64 rows, in two halves: a table of twice the rows takes the check about
+// three times as long.
 //
 // A step draws x from the 64-bit xorshift 13, 7, 17, which starts at SEED, and takes the row x >> 58 of its mix. The first step opens the
 // second window, which is closed at the start: SEED is such that it takes row 59, in each mix a window switch, and bench/baseline.c checks it.
@@ -22,8 +23,40 @@
 // of the steps. In these three half of the sources are in turn mode; a turn bit moves in 3, 1.6 and 1.8 of a hundred steps.
 pub(crate) const SEED: u64 = 0xbfd0273b10a6d4af;
 
+pub(crate) type Row = [u64; 7];
+
+#[derive(Clone, Copy)]
+pub(crate) struct Mix {
+    pub(crate) name: &'static str,
+    pub(crate) first: &'static [Row; 32],
+    pub(crate) last: &'static [Row; 32],
+}
+
+pub(crate) const MIXES: [Mix; 4] = [
+    Mix {
+        name: "messages",
+        first: &MESSAGES_FIRST,
+        last: &MESSAGES_LAST,
+    },
+    Mix {
+        name: "sparse",
+        first: &BRIDGE_FIRST,
+        last: &SPARSE_LAST,
+    },
+    Mix {
+        name: "dense",
+        first: &BRIDGE_FIRST,
+        last: &DENSE_LAST,
+    },
+    Mix {
+        name: "tree",
+        first: &BRIDGE_FIRST,
+        last: &TREE_LAST,
+    },
+];
+
 // Messages only: every message register of both cores by every path and width, both sends with every byte mask.
-pub(crate) const MESSAGES_FIRST: [[u64; 7]; 32] = [
+pub(crate) const MESSAGES_FIRST: [Row; 32] = [
     // Bus, first window.
     [0, 0, 0x1fe01000, 0x104, 4, 0, 0], // read Status, Enable
     [1, 0, 0x1fe01004, 0x100, 4, 0xffffffff, 0], // write Enable
@@ -62,7 +95,7 @@ pub(crate) const MESSAGES_FIRST: [[u64; 7]; 32] = [
     [3, 1, 0x1020, 0x1c, 4, 0xffffffff, 0], // write a half
 ];
 
-pub(crate) const MESSAGES_LAST: [[u64; 7]; 32] = [
+pub(crate) const MESSAGES_LAST: [Row; 32] = [
     [3, 1, 0x1040, 0, 4, 0xfc01ffff, 0], // IPI_Send
     [3, 1, 0x1048, 0, 8, 0xfffffffffc01ffff, 0], // Mail_Send
     [3, 1, 0x1040, 0, 4, 0xfc01ffff, 0], // IPI_Send
@@ -102,7 +135,7 @@ pub(crate) const MESSAGES_LAST: [[u64; 7]; 32] = [
 ];
 
 // The first half of SPARSE, of DENSE and of TREE.
-pub(crate) const BRIDGE_FIRST: [[u64; 7]; 32] = [
+pub(crate) const BRIDGE_FIRST: [Row; 32] = [
     // Bus, first window.
     [0, 0, 0x1fe01000, 0x104, 4, 0, 0], // read Status, Enable
     [1, 0, 0x1fe01004, 0x100, 4, 0x101, 0], // write Enable
@@ -144,7 +177,7 @@ pub(crate) const BRIDGE_FIRST: [[u64; 7]; 32] = [
 ];
 
 // A few sources pending, the gate open: all but eight sources are masked, and those at times.
-pub(crate) const SPARSE_LAST: [[u64; 7]; 32] = [
+pub(crate) const SPARSE_LAST: [Row; 32] = [
     [4, 3, 0, 0, 0, 0, 0], // SOFT_INT
     [4, 4, 0, 0, 0, 0, 0], // AUTO_CTRL0
     [4, 7, 0, 0, 0, 0, 0], // INTISR_CHIP0
@@ -184,7 +217,7 @@ pub(crate) const SPARSE_LAST: [[u64; 7]; 32] = [
 ];
 
 // Half of all sources pending, the gate open.
-pub(crate) const DENSE_LAST: [[u64; 7]; 32] = [
+pub(crate) const DENSE_LAST: [Row; 32] = [
     [4, 3, 0, 0, 0, 0, 0], // SOFT_INT
     [4, 4, 0, 0, 0, 0, 0], // AUTO_CTRL0
     [4, 7, 0, 0, 0, 0, 0], // INTISR_CHIP0
@@ -225,7 +258,7 @@ pub(crate) const DENSE_LAST: [[u64; 7]; 32] = [
 
 // Inputs of both kinds down to the pins: a few bridge sources pending, the gate open, a few of the node's sources enabled and routed, edge
 // choices among them, those of the bridge's two lines too.
-pub(crate) const TREE_LAST: [[u64; 7]; 32] = [
+pub(crate) const TREE_LAST: [Row; 32] = [
     // Bridge writes.
     [5, 0, 0, 0, 0, 0x8020040100804021, 0x7fdffbfeff7fbfde], // INT_MASK
     [5, 2, 0, 0, 0, 0x3333333333333333, 0], // INTEDGE

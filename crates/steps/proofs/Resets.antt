@@ -4,19 +4,20 @@ use Prim.Native.Nat.{ℕ}
 use mathlib.Core.Path.{◌≡◌, refl, sym, ap, ◌∙◌}
 use mathlib.Core.Bool.{Bool, true, false, true≢false}
 use mathlib.Core.Logic.{◌⊎◌, inl, inr, ⊎_elim}
-use Rattle.access.specs.declared.Verdict.{Verdict}
-use Rattle.access.specs.declared.Verdict.TheVariants as verdict
+use Rattle.std.specs.Prelude.{Result, Ok, Err, ⊤}
+use Rattle.access.specs.declared.Refusal.{Refusal}
+use Rattle.access.specs.declared.Written.{Written}
+use Rattle.access.specs.declared.Written.TheVariants.{Plain, Changed}
 use Rattle.access.specs.Refusal.{first_of}
 use Rattle.windows.specs.declared.Place.{Place}
 use Rattle.windows.specs.declared.Place.TheVariants.{Message, Node, Gate, GateHigh}
-use Rattle.admission.specs.declared.Admission.{Admission}
-use Rattle.admission.specs.declared.Admission.TheVariants.{Refused, At}
+use Rattle.admission.specs.declared.Admitted.{Admitted}
 use Rattle.admission.specs.Refusals.{bridge_refusals, input_refusals, node_input_refusals}
-use Rattle.bridge_registers.specs.declared.Written.{Written}
-use Rattle.bridge_registers.specs.declared.Written.TheVariants.{Plain, Changed}
+use Rattle.bridge_registers.specs.declared.Cell.{Cell}
+use Rattle.bridge_registers.specs.declared.Change.{Change}
 use Rattle.bridge_registers.specs.Registers.{written_of}
-use Rattle.node_registers.specs.declared.Written as node
-use Rattle.node_registers.specs.declared.Written.TheVariants as written
+use Rattle.node_registers.specs.declared.Cell as cell
+use Rattle.node_registers.specs.declared.Change as node
 use Rattle.node_registers.specs.Effect as nodes
 use Rattle.steps.specs.declared.Step.{Step}
 use Rattle.steps.specs.declared.Step.TheVariants as step
@@ -45,10 +46,10 @@ resets (ChangeTree change) = false
 resets (Window on) = false
 resets Reset = true
 
-node_plan_lem : (w : node.Written) → switches (node_plan w) ≡ false
+node_plan_lem : (w : Written cell.Cell node.Change) → switches (node_plan w) ≡ false
 unfolding node_plan
-node_plan_lem (written.Plain effect) = refl
-node_plan_lem (written.Changed c) = refl
+node_plan_lem (Plain effect) = refl
+node_plan_lem (Changed c) = refl
 
 access_plan_lem : (place : Place) (target width : ℕ) (write : Bool) (value : ℕ) → switches (access_plan place target width write value) ≡ false
 unfolding access_plan read_plan write_plan
@@ -61,19 +62,19 @@ access_plan_lem (Node register) target width false value = refl
 access_plan_lem Gate target width false value = refl
 access_plan_lem GateHigh target width false value = refl
 
-admitted_plan_lem : (a : Admission) (width : ℕ) (write : Bool) (value : ℕ) → switches (admitted_plan a width write value) ≡ false
+admitted_plan_lem : (a : Result Admitted Refusal) (width : ℕ) (write : Bool) (value : ℕ) → switches (admitted_plan a width write value) ≡ false
 unfolding admitted_plan
-admitted_plan_lem (Refused reason) width write value = refl
-admitted_plan_lem (At place target) width write value = access_plan_lem place target width write value
+admitted_plan_lem (Err reason) width write value = refl
+admitted_plan_lem (Ok a) width write value = access_plan_lem a.place a.target width write value
 
-written_plan_lem : (w : Written) → switches (written_plan w) ≡ false
+written_plan_lem : (w : Written Cell Change) → switches (written_plan w) ≡ false
 unfolding written_plan
 written_plan_lem (Plain effect) = refl
 written_plan_lem (Changed c) = refl
 
-judged : (v : Verdict) (p : Plan) → switches p ≡ false → switches (planned v p) ≡ false
-judged verdict.Accepted p e = e
-judged (verdict.Refused reason) p e = refl
+judged : (v : Result ⊤ Refusal) (p : Plan) → switches p ≡ false → switches (planned v p) ≡ false
+judged (Ok accepted) p e = e
+judged (Err reason) p e = refl
 
 abbrev is_switch : Step → Type 0
 is_switch s = ((on : Bool) × (s ≡ step.Window on)) ⊎ (s ≡ step.Reset)

@@ -4,9 +4,10 @@
 --   node_plan, written_plan                               a plain write or another change
 --   window_plan, bridge_plan, input_plan, node_input_plan, which_plan    what becomes of each kind of step
 --   decide_of                                            the plan of a step
-use Rattle.std.specs.Prelude.{ℕ, Bool, true, false, cond}
-use Rattle.access.specs.declared.Verdict.{Verdict}
-use Rattle.access.specs.declared.Verdict.TheVariants as verdict
+use Rattle.std.specs.Prelude.{ℕ, Bool, true, false, cond, Result, Ok, Err, ⊤}
+use Rattle.access.specs.declared.Refusal.{Refusal}
+use Rattle.access.specs.declared.Written.{Written}
+use Rattle.access.specs.declared.Written.TheVariants.{Plain, Changed}
 use Rattle.access.specs.Refusal.{first_of}
 use Rattle.ipi_registers.specs.Effect.{effect_of}
 use Rattle.windows.specs.declared.Window.TheVariants.{Private}
@@ -14,16 +15,15 @@ use Rattle.windows.specs.declared.Address.{Address}
 use Rattle.windows.specs.declared.Place.{Place}
 use Rattle.windows.specs.declared.Place.TheVariants.{Message, Node, Gate, GateHigh}
 use Rattle.windows.specs.Table.{address, bus_address}
-use Rattle.admission.specs.declared.Admission.{Admission}
-use Rattle.admission.specs.declared.Admission.TheVariants.{Refused, At}
+use Rattle.admission.specs.declared.Admitted.{Admitted}
 use Rattle.admission.specs.Refusals.{admission_of, bridge_refusals, input_refusals, node_input_refusals}
 use Rattle.bridge_registers.specs.declared.Chip.{Chip}
 use Rattle.bridge_registers.specs.declared.Register.{Register}
-use Rattle.bridge_registers.specs.declared.Written.{Written}
-use Rattle.bridge_registers.specs.declared.Written.TheVariants.{Plain, Changed}
+use Rattle.bridge_registers.specs.declared.Cell.{Cell}
+use Rattle.bridge_registers.specs.declared.Change.{Change}
 use Rattle.bridge_registers.specs.Registers.{written_of}
-use Rattle.node_registers.specs.declared.Written as node
-use Rattle.node_registers.specs.declared.Written.TheVariants as written
+use Rattle.node_registers.specs.declared.Cell as cell
+use Rattle.node_registers.specs.declared.Change as node
 use Rattle.node_registers.specs.Effect as nodes
 use Rattle.tree.specs.declared.Read.TheVariants as read
 use Rattle.tree.specs.declared.Write.TheVariants as write
@@ -43,9 +43,9 @@ read_plan Gate width = ReadTree (read.Gate false width)
 read_plan GateHigh width = ReadTree (read.Gate true width)
 
 -- a plain write to the node, or another change
-unfoldable pub node_plan : node.Written → Plan
-node_plan (written.Plain effect) = WriteTree (write.Node effect)
-node_plan (written.Changed c) = ChangeTree (change.Node c)
+unfoldable pub node_plan : Written cell.Cell node.Change → Plan
+node_plan (Plain effect) = WriteTree (write.Node effect)
+node_plan (Changed c) = ChangeTree (change.Node c)
 
 -- the cells of a message register are those of the core that the write reaches (`target_at`): of a send, its target
 unfoldable pub write_plan : Place → ℕ → ℕ → ℕ → Plan
@@ -59,9 +59,9 @@ access_plan place target width true value = write_plan place target width value
 access_plan place target width false value = read_plan place width
 
 -- an access that was judged: its refusal, or what it does
-unfoldable pub admitted_plan : Admission → ℕ → Bool → ℕ → Plan
-admitted_plan (Refused reason) width write value = Refuse reason
-admitted_plan (At place target) width write value = access_plan place target width write value
+unfoldable pub admitted_plan : Result Admitted Refusal → ℕ → Bool → ℕ → Plan
+admitted_plan (Err reason) width write value = Refuse reason
+admitted_plan (Ok a) width write value = access_plan a.place a.target width write value
 
 abbrev pub window_plan : Bool → Address → ℕ → Bool → ℕ → Plan
 window_plan opened a width write value = admitted_plan (admission_of a opened width write value) width write value
@@ -72,12 +72,12 @@ private_address core offset = address (Private core) offset
 -- ---- bridge accesses, input changes, searches
 
 -- a verdict, and the plan where it is no refusal
-abbrev pub planned : Verdict → Plan → Plan
-planned verdict.Accepted plan = plan
-planned (verdict.Refused reason) plan = Refuse reason
+abbrev pub planned : Result ⊤ Refusal → Plan → Plan
+planned (Ok accepted) plan = plan
+planned (Err reason) plan = Refuse reason
 
 -- a plain write, or another change
-unfoldable pub written_plan : Written → Plan
+unfoldable pub written_plan : Written Cell Change → Plan
 written_plan (Plain effect) = WriteTree (write.Bridge effect)
 written_plan (Changed c) = ChangeTree (change.Bridge c)
 

@@ -8,7 +8,7 @@ use Rattle.steps.specs.declared.request.Request.TheVariants as request
 use Rattle.steps.specs.Decide.{bridge_plan, input_plan, node_input_plan, which_plan, window_plan}
 
 unfoldable pub request_plan : Bool → Request → Plan
-request_plan opened (request.Access address width write value) = window_plan opened address width write value
+request_plan opened (request.Access address transfer) = window_plan opened address transfer.width transfer.write transfer.value
 request_plan opened (request.Bridge register write value) = bridge_plan register write value
 request_plan opened (request.Input source level) = input_plan source level
 request_plan opened (request.NodeInput source level) = node_input_plan source level

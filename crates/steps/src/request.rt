@@ -1,21 +1,17 @@
 // A step, with the four kinds of bus and private access as one, and the bridge's reads and writes as one. The form serves speed alone: so
 // `decide` names each plan once, and the compiler inlines what is called from one place (docs/SPEED.md).
-ghost use Rattle.std.specs.Prelude.{◌≡◌, Bool};
+ghost use Rattle.std.specs.Prelude.{◌≡◌, Bool, true, false};
 ghost use Rattle.steps.specs.Decide.{decide_of, private_address};
 ghost use Rattle.steps.specs.Private.{request_plan};
 
 use crate::Step;
+use access::Transfer;
 use bridge_registers::Chip;
 use windows::{Address, Window};
 
 #[derive(Clone, Copy)]
 pub(crate) enum Request {
-    Access {
-        address: Address,
-        width: u64,
-        write: bool,
-        value: u64,
-    },
+    Access(Address, Transfer),
     Bridge {
         register: bridge_registers::Register,
         write: bool,
@@ -29,23 +25,29 @@ pub(crate) enum Request {
         source: u64,
         level: bool,
     },
-    Which {
-        chip: Chip,
-    },
-    Window {
-        open: bool,
-    },
+    Which(Chip),
+    Window(bool),
     Reset,
 }
 
-fn access(address: Address, width: u64, write: bool, value: u64) -> Request
-    ensures { result ≡ Request.Access address width write value }
+// A read is an access that writes nothing.
+fn read(width: u64) -> Transfer
+    ensures { result ≡ record { width = width; write = false; value = 0 } }
 {
-    Request::Access {
-        address: address,
-        width: width,
-        write: write,
-        value: value,
+    Transfer {
+        width,
+        write: false,
+        value: 0,
+    }
+}
+
+fn write(width: u64, value: u64) -> Transfer
+    ensures { result ≡ record { width = width; write = true; value = value } }
+{
+    Transfer {
+        width,
+        write: true,
+        value,
     }
 }
 
@@ -54,54 +56,48 @@ fn in_private(core: u64, offset: u64) -> Address
 {
     Address {
         window: Window::Private(core),
-        offset: offset,
+        offset,
     }
 }
 
-fn on_bridge(register: bridge_registers::Register, write: bool, value: u64) -> Request
-    ensures { result ≡ Request.Bridge register write value }
-{
-    Request::Bridge {
-        register: register,
-        write: write,
-        value: value,
-    }
-}
-
-// A read is an access that writes nothing.
+#[tactic(auto, unfolding(crate::specs::Decide::decide_of, crate::specs::Private::request_plan))]
 pub(crate) fn requested(step: Step) -> Request
     ensures { (opened : Bool) → request_plan opened result ≡ decide_of opened step }
 {
     match step {
-        Step::BusRead { address, width } => access(windows::bus_address(address), width, false, 0),
+        Step::BusRead { address, width } => {
+            Request::Access(windows::bus_address(address), read(width))
+        }
         Step::BusWrite {
             address,
             width,
             value,
-        } => access(windows::bus_address(address), width, true, value),
+        } => Request::Access(windows::bus_address(address), write(width, value)),
         Step::PrivateRead {
             core,
             offset,
             width,
-        } => access(in_private(core, offset), width, false, 0),
+        } => Request::Access(in_private(core, offset), read(width)),
         Step::PrivateWrite {
             core,
             offset,
             width,
             value,
-        } => access(in_private(core, offset), width, true, value),
-        Step::BridgeRead { register } => on_bridge(register, false, 0),
-        Step::BridgeWrite { register, value } => on_bridge(register, true, value),
-        Step::Input { source, level } => Request::Input {
-            source: source,
-            level: level,
+        } => Request::Access(in_private(core, offset), write(width, value)),
+        Step::BridgeRead { register } => Request::Bridge {
+            register,
+            write: false,
+            value: 0,
         },
-        Step::NodeInput { source, level } => Request::NodeInput {
-            source: source,
-            level: level,
+        Step::BridgeWrite { register, value } => Request::Bridge {
+            register,
+            write: true,
+            value,
         },
-        Step::Which { chip } => Request::Which { chip: chip },
-        Step::Window { open } => Request::Window { open: open },
+        Step::Input { source, level } => Request::Input { source, level },
+        Step::NodeInput { source, level } => Request::NodeInput { source, level },
+        Step::Which { chip } => Request::Which(chip),
+        Step::Window { open } => Request::Window(open),
         Step::Reset => Request::Reset,
     }
 }

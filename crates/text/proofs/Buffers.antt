@@ -18,5 +18,5 @@ pub put_whole : (out : List ℕ) (at : ℕ) (s : List ℕ) → at + length s ≤
 unfolding fits put_of end_of
 put_whole out at s h = record { place = simp (le-leb (at + length s) (length out) h); bytes = simp (le-leb (at + length s) (length out) h, take-length) }
 
-pub put_digits : {out after : List ℕ} {at next : ℕ} (s : List ℕ) (d : Digits) → d ≡ ended s → Put out at (drop d.start d.bytes) next after → Put out at s next after
-put_digits s d e p = rw (ended_text s d e) at p
+pub put_digits : {out after : List ℕ} {at next : ℕ} (s t : List ℕ) (d : Digits) → d ≡ ended s → t ≡ drop d.start d.bytes → Put out at t next after → Put out at s next after
+put_digits s t d e f p = rw (f, ended_text s d e) at p

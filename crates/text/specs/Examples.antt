@@ -18,12 +18,11 @@ tokens = refl
 
 -- `ab` against `ab`, `ac`, `a` and `abc`
 same : map (same_of (97 ∷ 98 ∷ [])) ((97 ∷ 98 ∷ []) ∷ (97 ∷ 99 ∷ []) ∷ (97 ∷ []) ∷ (97 ∷ 98 ∷ 99 ∷ []) ∷ []) ≡ true ∷ false ∷ false ∷ false ∷ []
-unfolding same_of
 same = refl
 
 -- The first and the last printable character, the tab, and the neighbours of the range.
 printable : map (λ c. printable_of (97 ∷ c ∷ [])) (32 ∷ 126 ∷ 9 ∷ 31 ∷ 127 ∷ []) ≡ true ∷ true ∷ true ∷ false ∷ false ∷ []
-unfolding printable_of shown
+unfolding shown
 printable = refl
 
 -- `ab` put into four bytes: at 1, at the last place where it fits, and where it does not fit.

@@ -2,7 +2,9 @@
 --   run, past   how many bytes of a kind a text begins with, and the place after them
 --   token_by     the next token of a text       token_of       the next token of a line
 --   same_of      two texts are equal            printable_of   a text is printable ASCII and tabs
-use Rattle.std.specs.Prelude.{ℕ, suc, ◌+◌, min, Bool, true, false, cond, not, ◌&&◌, ◌||◌, List, [], ◌∷◌, eqb, leb, length, drop}
+use Rattle.std.specs.Prelude.{ℕ, suc, ◌+◌, min, Bool, cond, not, ◌&&◌, ◌||◌, List, [], ◌∷◌, eqb, leb, length, drop}
+use Rattle.std.specs.List.{list_all}
+use Rattle.std.specs.Str.{bytes_eq}
 use Rattle.text.specs.declared.Span.{Span}
 
 -- ---- tokens
@@ -37,17 +39,13 @@ token_of s from = token_by blank ends s (min from (length s))
 -- ---- tests of a text
 
 -- Two texts are equal.
-unfoldable pub same_of : List ℕ → List ℕ → Bool
-same_of [] [] = true
-same_of [] (d ∷ t) = false
-same_of (c ∷ s) [] = false
-same_of (c ∷ s) (d ∷ t) = eqb c d && same_of s t
+abbrev pub same_of : List ℕ → List ℕ → Bool
+same_of = bytes_eq
 
 -- A byte is a tab (9) or printable ASCII (32 to 126).
 unfoldable pub shown : ℕ → Bool
 shown c = eqb c 9 || (leb 32 c && leb c 126)
 
 -- Every byte is shown.
-unfoldable pub printable_of : List ℕ → Bool
-printable_of [] = true
-printable_of (c ∷ s) = shown c && printable_of s
+abbrev pub printable_of : List ℕ → Bool
+printable_of = list_all shown

@@ -1,14 +1,15 @@
 // Texts as byte slices: tokens, tests of a text, text put into a buffer.
 #![tactic(auto)]
 
-ghost use Rattle.std.specs.Prelude.{◌≡◌, cond, not, ◌≤◌, min, drop};
+ghost use Rattle.std.specs.Prelude.{◌≡◌, ℕ, Bool, drop};
 ghost use Rattle.bits.specs.Bits.{bit};
 ghost use Rattle.numbers.specs.Printed.{hex_of, decimal_of};
-ghost use Rattle.text.specs.Tokens.{past, token_by, token_of, same_of, shown as shown_of, printable_of};
+ghost use Rattle.text.specs.Tokens.{past as past_of, token_by, token_of, same_of, shown as shown_of, printable_of};
 ghost use Rattle.text.specs.Buffers.{Put};
 
 // A part of a text, from its start to before its end.
-#[derive(Clone, Copy)]
+// No Option where there is no token: an empty span still says where the reading ended, and `token_of` has it (docs/PROOFS.md names `token_by`).
+#[derive(Clone, Copy, PartialEq, Eq, Debug)]
 pub struct Span {
     pub start: usize,
     pub end: usize,
@@ -23,37 +24,39 @@ const ENDS: u64 = 0x9_0000_0200;
 pub fn token(s: &[u8], from: usize) -> Span
     ensures { result ≡ token_of s.now from }
 {
-    token_by(s, least(from, s.len()), BLANKS, ENDS)
-}
-
-// The lesser of two.
-pub fn least(a: usize, b: usize) -> usize
-    ensures { result ≡ min a b }
-{
-    if a < b { a } else { b }
+    token_by(s, from.min(s.len()), BLANKS, ENDS)
 }
 
 // The next token at or after a place: past the bytes of one set, and up to the next byte of another. Bit c of a set is byte c; a byte above 63 is in none.
+// Sets as words and no closures: its clause is `token_by (bit blanks) (bit ends)`, which docs/PROOFS.md names.
 pub fn token_by(s: &[u8], from: usize, blanks: u64, ends: u64) -> Span
     ensures { result ≡ token_by (bit blanks) (bit ends) s.now from }
 {
-    let start = skip(s, from, blanks, true);
-    let end = skip(s, start, ends, false);
+    let start = past(s, from, |c| within(blanks, c));
+    let end = past(s, start, |c| !within(ends, c));
     Span { start, end }
 }
 
-// The place past the bytes from a place on that are all in a set, or all not.
-fn skip(s: &[u8], from: usize, set: u64, inside: bool) -> usize
-    ensures { result ≡ past (cond inside (bit set) (λ c. not (bit set c))) s.now from }
+// The place past the bytes of a kind that stand from a place on.
+// Not by `position`: its clause is of the closure that wraps `kind`, and the proof from there to `past` did not close.
+fn past<F: Fn(u8) -> bool>(s: &[u8], from: usize, kind: F) -> usize
+    requires { (c : ℕ) → F.pre kind c }
+    ensures { (k : ℕ → Bool) → ((c : ℕ) (b : Bool) → F.post kind c b → b ≡ k c) → result ≡ past_of k s.now from }
 {
-    let mut i = from;
-    while i < s.len() {
-        if within(set, s[i]) != inside {
-            return i;
+    let left = rest(s, from);
+    for (i, &c) in left.iter().enumerate() {
+        if !kind(c) {
+            return from + i;
         }
-        i += 1;
     }
-    i
+    from + left.len()
+}
+
+// What a text has from a place on: nothing past its end.
+pub fn rest(s: &[u8], from: usize) -> &[u8]
+    ensures { result.now ≡ drop from s.now }
+{
+    &s[from.min(s.len())..]
 }
 
 fn within(set: u64, c: u8) -> bool
@@ -63,74 +66,48 @@ fn within(set: u64, c: u8) -> bool
 }
 
 // Whether two texts are equal.
+// `==` by another name: the must-fail edit prefix_is_same is of it.
 pub fn same(a: &[u8], b: &[u8]) -> bool
     ensures { result ≡ same_of a.now b.now }
 {
-    if a.len() != b.len() {
-        return false;
-    }
-    let mut i = 0;
-    while i < a.len() {
-        if a[i] != b[i] {
-            return false;
-        }
-        i += 1;
-    }
-    true
+    a == b
 }
 
 // Whether every byte of a text is printable ASCII or a tab.
 pub fn printable(s: &[u8]) -> bool
     ensures { result ≡ printable_of s.now }
 {
-    let mut i = 0;
-    while i < s.len() {
-        if !shown(s[i]) {
-            return false;
-        }
-        i += 1;
-    }
-    true
+    s.iter().all(|&c| shown(c))
 }
 
 // Whether a byte is a tab or printable ASCII.
+#[tactic(auto, unfolding(crate::specs::Tokens::shown))]
 fn shown(c: u8) -> bool
     ensures { result ≡ shown_of c }
 {
-    if c == b'\t' {
-        return true;
-    }
-    if c < 32 {
-        return false;
-    }
-    c <= 126
+    matches!(c, b'\t' | b' '..=b'~')
 }
 
 // Puts a text into a buffer at a place and answers the place after it; where it does not fit, nothing changes and the place is answered.
+// No Option where it does not fit, and buffer and place as two: docs/PROOFS.md names `put` and its promise `Put`.
 pub fn put(out: &mut [u8], at: usize, s: &[u8]) -> usize
     ensures { Put out.old at s.now result out.new }
 {
-    if out.len() < at {
+    if out.len() < at || out.len() - at < s.len() {
         return at;
     }
-    if out.len() - at < s.len() {
-        return at;
-    }
-    let mut i = 0;
-    while i < s.len() {
-        out[at + i] = s[i];
-        i += 1;
-    }
-    at + s.len()
+    let end = at + s.len();
+    out[at..end].copy_from_slice(s);
+    end
 }
 
 // Puts a number in hexadecimal, with no `0x` and no leading zeros.
+// Two of one line over `put`, this and the next: docs/PROOFS.md names both.
 pub fn put_hex(out: &mut [u8], at: usize, n: u64) -> usize
     ensures { Put out.old at (hex_of n) result out.new }
 {
     let digits = numbers::hex(n);
-    let bytes = digits.bytes;
-    put_end(out, at, bytes, digits.start)
+    put(out, at, digits.as_slice())
 }
 
 // Puts a number in decimal, with no leading zeros.
@@ -138,14 +115,5 @@ pub fn put_decimal(out: &mut [u8], at: usize, n: u64) -> usize
     ensures { Put out.old at (decimal_of n) result out.new }
 {
     let digits = numbers::decimal(n);
-    let bytes = digits.bytes;
-    put_end(out, at, bytes, digits.start)
-}
-
-// Puts what an array holds from a place on.
-fn put_end(out: &mut [u8], at: usize, bytes: [u8; 20], start: usize) -> usize
-    requires { start ≤ 20 }
-    ensures { Put out.old at (drop start bytes) result out.new }
-{
-    put(out, at, &bytes[start..])
+    put(out, at, digits.as_slice())
 }

@@ -1,8 +1,9 @@
 -- The word that the code carries is of the cell before and after the act: the gate's bit, and that what follows from an act leaves the cell.
-use Prim.Native.Nat.{ℕ, ◌^◌}
-use mathlib.Core.Path.{◌≡◌, refl, sym, ap}
+use Prim.Native.Nat.{ℕ, ◌*◌, ◌%◌, ◌^◌}
+use mathlib.Core.Path.{◌≡◌, refl, sym, ap, ◌∙◌}
 use mathlib.Core.Bool.{Bool, true, false, cond, xor}
-use Rattle.bits.specs.Bits.{bit, differ, word}
+use Rattle.bits.specs.Bits.{bit, differ, digit, word}
+use Rattle.bits.specs.declared.After.{After}
 use Rattle.bits.proofs.Writes.{differ_same}
 use Rattle.node_registers.specs.declared.Cell.{Cell}
 use Rattle.node_registers.specs.declared.Cell.TheVariants.{Inten, Entry}
@@ -12,7 +13,6 @@ use Rattle.node.specs.declared.Before as node-before
 use Rattle.node.specs.declared.Node.{Node}
 use Rattle.node.specs.Changes.{settled_of}
 use Rattle.node.specs.Moved as node
-use Rattle.tree.specs.declared.Acted.{Acted}
 use Rattle.tree.specs.declared.Tree.{Tree}
 use Rattle.tree.specs.declared.Act.{Act}
 use Rattle.tree.specs.declared.Act.TheVariants as act
@@ -32,9 +32,18 @@ gate_moved true false false = refl
 gate_moved false value true = refl
 gate_moved false value false = refl
 
+-- a bit of the gate, moved up as the code does it
+shifted : (b : Bool) → digit b * 2 ^ 48 % 2 ^ 64 ≡ cond b (2 ^ 48) 0
+shifted true = refl
+shifted false = refl
+
+pub gate_shifted : (mask value gate : Bool)
+    → digit (xor gate (cond mask value gate)) * 2 ^ 48 % 2 ^ 64 ≡ differ 64 (cond mask (tree.gate_read gate (2 ^ 48)) 0) (cond mask (tree.gate_read (cond mask value gate) (2 ^ 48)) 0)
+gate_shifted mask value gate = shifted (xor gate (cond mask value gate)) ∙ gate_moved mask value gate
+
 -- an input change names no cell
-abbrev with : Tree → ℕ → Acted
-with t moved = record { tree = t; moved = moved }
+abbrev with : Tree → ℕ → After Tree
+with t moved = record { state = t; moved = moved }
 
 pub none_moved_lem : (t : Tree) → with t 0 ≡ with t (differ 64 0 0)
 none_moved_lem t = ap (with t) (sym (differ_same 64 0))

@@ -3,9 +3,9 @@
 --   with_moved   a tree after an act, with the bits in which that cell differs before and after
 use Rattle.std.specs.Prelude.{ℕ, ◌^◌, cond}
 use Rattle.bits.specs.Bits.{differ}
+use Rattle.bits.specs.declared.After.{After}
 use Rattle.bridge.specs.Moved as bridge
 use Rattle.node.specs.Moved as node
-use Rattle.tree.specs.declared.Acted.{Acted}
 use Rattle.tree.specs.declared.Tree.{Tree}
 use Rattle.tree.specs.declared.Write.TheVariants as write
 use Rattle.tree.specs.declared.Change.TheVariants as change
@@ -23,5 +23,5 @@ cell_of t (act.Change (change.Input level source)) = 0
 cell_of t (act.Change (change.Node c)) = node.changed_cell t.node c
 cell_of t (act.Change (change.NodeInput level source)) = 0
 
-abbrev pub with_moved : Tree → Tree → Act → Acted
-with_moved before after act = record { tree = after; moved = differ 64 (cell_of before act) (cell_of after act) }
+abbrev pub with_moved : Tree → Tree → Act → After Tree
+with_moved before after act = record { state = after; moved = differ 64 (cell_of before act) (cell_of after act) }

@@ -7,10 +7,9 @@
 --   applied_of, moved_of   what a plain write, and any other change, move; the bridge has settled     unsettled_of   either
 --   before_of     what settling needs of the tree before     settled_of   what follows: the node's latches
 --   acted_of      the tree after a step: both
-use Rattle.std.specs.Prelude.{ℕ, ◌^◌, Bool, true, false, cond, ◌&&◌, eqb, replicate}
+use Rattle.std.specs.Prelude.{ℕ, ◌^◌, Bool, true, false, cond, ◌&&◌, eqb, replicate, Result, Ok}
 use Rattle.bits.specs.Bits.{bit, word}
-use Rattle.answers.specs.declared.Outcome.{Outcome}
-use Rattle.answers.specs.declared.Outcome.TheVariants.{Value}
+use Rattle.access.specs.declared.Refusal.{Refusal}
 use Rattle.bridge.specs.declared.Bridge.{Bridge}
 use Rattle.bridge.specs.Sources as bridge
 use Rattle.bridge.specs.Changes as bridges
@@ -72,10 +71,10 @@ abbrev pub gate_weight : Bool → ℕ → ℕ
 gate_weight high width = cond high (2 ^ 16) (cond (eqb width 8) (2 ^ 48) 0)
 
 -- a read is accepted, but for a search (request Q-5), which is refused where it finds no source; the gate plays no part in that
-unfoldable pub read_of : Tree → Read → Outcome
-read_of t (read.Bridge register) = Value (bridge.read_of t.bridge register)
-read_of t (read.Gate high width) = Value (gate_read t.gate (gate_weight high width))
-read_of t (read.Node register) = Value (node.read_of t.node (lines_of t) register)
+unfoldable pub read_of : Tree → Read → Result ℕ Refusal
+read_of t (read.Bridge register) = Ok (bridge.read_of t.bridge register)
+read_of t (read.Gate high width) = Ok (gate_read t.gate (gate_weight high width))
+read_of t (read.Node register) = Ok (node.read_of t.node (lines_of t) register)
 read_of t (read.Which chip) = bridge.which_of t.bridge chip
 
 -- ---- plain writes: what the step itself moves

@@ -4,12 +4,12 @@
 
 ghost use Rattle.std.specs.Prelude.{◌≡◌};
 ghost use Rattle.node.specs.Sources as nodes;
-ghost use Rattle.bridge.specs.Sources.{which_of};
 ghost use Rattle.tree.specs.Moved.{with_moved};
 ghost use Rattle.tree.specs.Tree.{acted_of, applied_of, fresh_of, gate_read, gate_weight, gate_written, lines_of, moved_of, read_of, reset_of, unsettled_of, with_bridge, with_gate, with_levels, with_node};
 ghost use Rattle.tree.specs.Private.{watched_before, watched_of, watched_settled};
 
 use answers::Outcome;
+use bits::After;
 use bridge::Bridge;
 use bridge_registers::Chip;
 use node::Node;
@@ -54,13 +54,6 @@ pub enum Act {
     Change(Change),
 }
 
-// A tree after an act, and the bits that the act moved (request Q-8).
-#[derive(Clone, Copy)]
-pub struct Acted {
-    pub tree: Tree,
-    pub moved: u64,
-}
-
 // What settling needs of the tree before an act.
 #[derive(Clone, Copy)]
 pub struct Before {
@@ -75,6 +68,7 @@ fn gate_read(gate: bool, weight: u64) -> u64
 }
 
 // Bit 16 of the high half, bit 48 of the word, and no bit of the low half.
+// high beside the width: `gate_weight` and `gate_written` have both, and the small one stands first (docs/SPEED.md).
 fn gate_weight(high: bool, width: u64) -> u64
     ensures { result ≡ gate_weight high width }
 {
@@ -85,6 +79,7 @@ fn gate_weight(high: bool, width: u64) -> u64
 }
 
 // What a write to the gate's word, or to the high half of it, does.
+#[tactic(auto, unfolding(crate::specs::Tree::gate_written))]
 pub fn gate_written(high: bool, width: u64, value: u64) -> Write
     ensures { result ≡ gate_written high width value }
 {
@@ -102,17 +97,18 @@ pub fn gate_written(high: bool, width: u64, value: u64) -> Write
 
 impl Tree {
     // The masks and the input levels as given, and everything else 0.
+    #[tactic(auto, unfolding(crate::specs::Tree::with_levels))]
     fn with_levels(mask: u64, level: u64, node_level: u32) -> Tree
         ensures { result ≡ with_levels mask level node_level }
     {
         Tree {
             bridge: Bridge {
-                mask: mask,
+                mask,
                 msi: 0,
                 edge: 0,
                 latch: 0,
                 soft: 0,
-                level: level,
+                level,
                 auto: 0,
                 turn: 0,
                 routes: [0; 64],
@@ -128,6 +124,7 @@ impl Tree {
         }
     }
 
+    #[tactic(auto, unfolding(crate::specs::Tree::fresh_of))]
     pub fn fresh(mask: u64) -> Tree
         ensures { result ≡ fresh_of mask }
     {
@@ -135,42 +132,31 @@ impl Tree {
     }
 
     // The reset values; the input levels stay.
+    #[tactic(auto, unfolding(crate::specs::Tree::reset_of))]
     pub fn reset(self, mask: u64) -> Tree
         ensures { result ≡ reset_of mask self }
     {
-        let b = self.bridge;
-        let n = self.node;
-        Tree::with_levels(mask, b.level, n.level)
+        Tree::with_levels(mask, self.bridge.level, self.node.level)
     }
 
-    // The gate plays no part.
-    fn which(self, chip: Chip) -> Outcome
-        ensures { result ≡ which_of self.bridge chip }
-    {
-        let b = self.bridge;
-        b.which(chip)
-    }
-
-    // The value that is read, or the refusal of a search that finds none.
+    // The value that is read, or the refusal of a search that finds none; in a search the gate plays no part.
+    #[tactic(auto, unfolding(crate::specs::Tree::read_of))]
     pub fn read(self, read: Read) -> Outcome
         ensures { result ≡ read_of self read }
     {
-        let b = self.bridge;
-        let n = self.node;
         match read {
-            Read::Bridge(register) => Outcome::Value(b.read(register)),
-            Read::Gate { high, width } => {
-                Outcome::Value(gate_read(self.gate, gate_weight(high, width)))
-            }
-            Read::Node(register) => Outcome::Value(n.read(self.lines(), register)),
-            Read::Which(chip) => self.which(chip),
+            Read::Bridge(register) => Ok(self.bridge.read(register)),
+            Read::Gate { high, width } => Ok(gate_read(self.gate, gate_weight(high, width))),
+            Read::Node(register) => Ok(self.node.read(self.lines(), register)),
+            Read::Which(chip) => self.bridge.which(chip),
         }
     }
 
-    fn with_bridge(mut self, b: Bridge) -> Tree
-        ensures { result ≡ with_bridge self b }
+    // Setters, and no struct update (`Tree { bridge, ..self }`): that copies the tree once more at every step, 26 to 34 instructions (docs/SPEED.md).
+    fn with_bridge(mut self, bridge: Bridge) -> Tree
+        ensures { result ≡ with_bridge self bridge }
     {
-        self.bridge = b;
+        self.bridge = bridge;
         self
     }
 
@@ -181,78 +167,74 @@ impl Tree {
         self
     }
 
-    fn with_node(mut self, n: Node) -> Tree
-        ensures { result ≡ with_node self n }
+    fn with_node(mut self, node: Node) -> Tree
+        ensures { result ≡ with_node self node }
     {
-        self.node = n;
+        self.node = node;
         self
     }
 
-    fn with(self, moved: u64) -> Acted
-        ensures { result ≡ record { tree = self; moved = moved } }
+    fn with(self, moved: u64) -> After<Tree>
+        ensures { result ≡ record { state = self; moved = moved } }
     {
-        Acted {
-            tree: self,
-            moved: moved,
-        }
+        After { state: self, moved }
     }
 
-    fn bridge_acted(self, applied: bridge::Applied) -> Acted
-        ensures { result ≡ record { tree = with_bridge self applied.bridge; moved = applied.moved } }
+    fn bridge_acted(self, after: After<Bridge>) -> After<Tree>
+        ensures { result ≡ record { state = with_bridge self after.state; moved = after.moved } }
     {
-        let bridge = applied.bridge;
-        self.with_bridge(bridge).with(applied.moved)
+        self.with_bridge(after.state).with(after.moved)
     }
 
-    fn node_acted(self, applied: node::Applied) -> Acted
-        ensures { result ≡ record { tree = with_node self applied.node; moved = applied.moved } }
+    fn node_acted(self, after: After<Node>) -> After<Tree>
+        ensures { result ≡ record { state = with_node self after.state; moved = after.moved } }
     {
-        let node = applied.node;
-        self.with_node(node).with(applied.moved)
+        self.with_node(after.state).with(after.moved)
     }
 
     // The gate is bit 48, by whichever offset it was written.
-    fn gate_acted(self, mask: bool, bit: bool) -> Acted
+    #[tactic(auto, using(crate::proofs::Moved::gate_shifted), unfolding(crate::specs::Tree::applied_of, crate::specs::Moved::cell_of))]
+    fn gate_acted(self, mask: bool, bit: bool) -> After<Tree>
         ensures { result ≡ with_moved self (applied_of self (Write.Gate mask bit)) (Act.Write (Write.Gate mask bit)) }
     {
         let new = bits::merge1(self.gate, mask, bit);
-        self.with_gate(new.word)
-            .with(gate_read(new.moved, 0x1_0000_0000_0000))
+        self.with_gate(new.state).with(new.moved << 48)
     }
 
     // What a plain write itself moves.
     #[tactic(auto, unfolding(crate::specs::Tree::applied_of, crate::specs::Moved::cell_of))]
-    fn applied(self, write: Write) -> Acted
+    fn applied(self, write: Write) -> After<Tree>
         ensures { result ≡ with_moved self (applied_of self write) (Act.Write write) }
     {
-        let b = self.bridge;
-        let n = self.node;
         match write {
-            Write::Bridge(effect) => self.bridge_acted(b.applied(effect)),
+            Write::Bridge(effect) => self.bridge_acted(self.bridge.applied(effect)),
             Write::Gate { mask, bit } => self.gate_acted(mask, bit),
-            Write::Node(effect) => self.node_acted(n.applied(effect)),
+            Write::Node(effect) => self.node_acted(self.node.applied(effect)),
         }
     }
 
     // What any other change itself moves; the bridge's own cells have settled. An input change is no write: it has no word.
     #[tactic(auto, unfolding(crate::specs::Tree::moved_of, crate::specs::Moved::cell_of))]
-    fn moved(self, change: Change) -> Acted
+    fn moved(self, change: Change) -> After<Tree>
         ensures { result ≡ with_moved self (moved_of self change) (Act.Change change) }
     {
-        let b = self.bridge;
-        let n = self.node;
         match change {
-            Change::Bridge(change) => self.bridge_acted(b.changed(change)),
-            Change::Input { level, source } => self.with_bridge(b.input(source, level)).with(0),
-            Change::Node(change) => self.node_acted(n.moved(change)),
-            Change::NodeInput { level, source } => {
-                self.with_node(n.levelled(source, level)).with(0)
-            }
+            Change::Bridge(change) => self.bridge_acted(self.bridge.changed(change)),
+            Change::Input { level, source } => After {
+                state: self.with_bridge(self.bridge.input(source, level)),
+                moved: 0,
+            },
+            Change::Node(change) => self.node_acted(self.node.moved(change)),
+            Change::NodeInput { level, source } => After {
+                state: self.with_node(self.node.levelled(source, level)),
+                moved: 0,
+            },
         }
     }
 
     // The tree after an act, before it settles.
-    fn unsettled(self, act: Act) -> Acted
+    #[tactic(auto, unfolding(crate::specs::Tree::unsettled_of))]
+    fn unsettled(self, act: Act) -> After<Tree>
         ensures { result ≡ with_moved self (unsettled_of self act) act }
     {
         match act {
@@ -262,41 +244,33 @@ impl Tree {
     }
 
     // The bridge's lines at the node, behind the gate: line k as bit k.
+    #[tactic(auto, using(crate::proofs::Lines::lines_open, crate::proofs::Lines::lines_closed))]
     pub fn lines(self) -> u8
         ensures { result ≡ lines_of self }
     {
-        if self.gate {
-            let b = self.bridge;
-            return b.lines();
-        }
-        0
+        if self.gate { self.bridge.lines() } else { 0 }
     }
 
     // The lines to the pins, where the bridge's lines are `lines`: core c and pin p as bit 4 * c + p.
     pub fn pins(self, lines: u8) -> u8
         ensures { result ≡ nodes.pins_of self.node lines }
     {
-        let n = self.node;
-        n.pins(lines)
+        self.node.pins(lines)
     }
 
     // The bridge's lines, looked at only where a rise of one could be latched.
     fn watched(self, edge: u32) -> u8
         ensures { result ≡ watched_of self edge }
     {
-        if edge % 4 == 0 {
-            return 0;
-        }
-        self.lines()
+        if edge % 4 == 0 { 0 } else { self.lines() }
     }
 
     // What settling needs of the tree before an act.
     fn before(self) -> Before
         ensures { result ≡ watched_before self }
     {
-        let n = self.node;
         Before {
-            node: n.before(self.watched(n.edge)),
+            node: self.node.before(self.watched(self.node.edge)),
         }
     }
 
@@ -304,17 +278,16 @@ impl Tree {
     fn settled(self, before: Before) -> Tree
         ensures { result ≡ watched_settled before self }
     {
-        let n = self.node;
-        let node = before.node;
-        self.with_node(n.settled(node, self.watched(node.edge)))
+        let lines = self.watched(before.node.edge);
+        self.with_node(self.node.settled(before.node, lines))
     }
 
     // The tree after an act and what follows from it, and the bits of the cell that then differ: what follows moves none of them.
-    pub fn acted(self, act: Act) -> Acted
+    #[tactic(auto, using(crate::proofs::Moved::acted_cell, crate::proofs::Settle::acted_by))]
+    pub fn acted(self, act: Act) -> After<Tree>
         ensures { result ≡ with_moved self (acted_of self act) act }
     {
-        let after = self.unsettled(act);
-        let tree = after.tree;
-        tree.settled(self.before()).with(after.moved)
+        let After { state, moved } = self.unsettled(act);
+        state.settled(self.before()).with(moved)
     }
 }

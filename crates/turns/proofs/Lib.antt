@@ -1,1 +1,2 @@
-mod Turns
+mod Route
+mod Sources

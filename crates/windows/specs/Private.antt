@@ -1,20 +1,12 @@
 -- For the contracts of private functions alone; no other definition uses these.
---   gate_at               a place that may be read and written
 --   core_term, without_term   the core term of a bus offset, and the offset without it     core_in, own_offset   the same in any window
 --   alone_at, beside_at    what an offset names among the rows of one window alone, and among those and the node's
-use Rattle.std.specs.Prelude.{ℕ, ◌-◌, Bool, cond, ◌&&◌, ◌++◌, leb, ltb}
-use Rattle.access.specs.declared.Rights.TheVariants.{Both}
-use Rattle.access.specs.declared.Widths.{Widths}
+use Rattle.std.specs.Prelude.{ℕ, ◌-◌, Bool, cond, ◌&&◌, ◌++◌, leb, ltb, Option, None}
 use Rattle.access.specs.Table.{lookup}
 use Rattle.windows.specs.declared.Window.{Window}
 use Rattle.windows.specs.declared.Window.TheVariants.{First, Second, Private}
-use Rattle.windows.specs.declared.Place.{Place}
 use Rattle.windows.specs.declared.Located.{Located}
-use Rattle.windows.specs.declared.Located.TheVariants.{Nowhere, At}
 use Rattle.windows.specs.Table.{alone_in, node_table}
-
-abbrev pub gate_at : Place → Widths → Located
-gate_at place widths = At place (record { rights = Both; widths = widths })
 
 abbrev of_core1 : ℕ → Bool
 of_core1 o = leb 0x1100 o && ltb o 0x1200
@@ -35,8 +27,8 @@ own_offset First o = without_term o
 own_offset Second o = without_term o
 own_offset (Private core) o = o
 
-unfoldable pub alone_at : Window → ℕ → Located
-alone_at w o = lookup Nowhere (alone_in w) o
+unfoldable pub alone_at : Window → ℕ → Option Located
+alone_at w o = lookup None (alone_in w) o
 
-unfoldable pub beside_at : Window → ℕ → Located
-beside_at w o = lookup Nowhere (node_table ++ alone_in w) o
+unfoldable pub beside_at : Window → ℕ → Option Located
+beside_at w o = lookup None (node_table ++ alone_in w) o

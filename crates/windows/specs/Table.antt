@@ -1,16 +1,16 @@
 -- The windows (01, "Bus window" and "Private window"; request Q-2, tables 8-5, 8-7 and 8-8): which register an offset in one of them names.
 --   bus_address    the window of a bus address, and the offset in it     messages_in, node_table, alone_in   the rows of a window
 --   window_table   all of them                                           located_at   what an address names
-use Rattle.std.specs.Prelude.{ℕ, ◌-◌, Bool, true, false, cond, List, [], ◌∷◌, ◌++◌, ltb}
+use Rattle.std.specs.Prelude.{ℕ, ◌-◌, Bool, true, false, cond, List, [], ◌∷◌, ◌++◌, ltb, Option, Some, None}
+use Rattle.access.specs.declared.Entry.{Entry}
+use Rattle.access.specs.declared.Access.{Access}
 use Rattle.access.specs.declared.Rights.TheVariants.{Both}
 use Rattle.access.specs.declared.Widths.{Widths}
 use Rattle.access.specs.declared.Widths.TheVariants.{Four, FourOrEight}
 use Rattle.access.specs.Table.{Row, row, lookup, based}
-use Rattle.ipi_registers.specs.declared.Found as ipi
-use Rattle.ipi_registers.specs.declared.Found.TheVariants as message
+use Rattle.ipi_registers.specs.declared.Register as ipi
 use Rattle.ipi_registers.specs.Table.{table, sends}
-use Rattle.node_registers.specs.declared.Found as node
-use Rattle.node_registers.specs.declared.Found.TheVariants as found
+use Rattle.node_registers.specs.declared.Register as node
 use Rattle.node_registers.specs.Table as nodes
 use Rattle.windows.specs.declared.Window.{Window}
 use Rattle.windows.specs.declared.Window.TheVariants.{First, Second, Private}
@@ -18,12 +18,11 @@ use Rattle.windows.specs.declared.Address.{Address}
 use Rattle.windows.specs.declared.Place.{Place}
 use Rattle.windows.specs.declared.Place.TheVariants.{Message, Node, Gate, GateHigh}
 use Rattle.windows.specs.declared.Located.{Located}
-use Rattle.windows.specs.declared.Located.TheVariants.{Nowhere, At}
 
 -- nothing is named
-abbrev pub nowhere : Located → Bool
-nowhere Nowhere = true
-nowhere (At place access) = false
+abbrev pub nowhere : Option Located → Bool
+nowhere None = true
+nowhere (Some l) = false
 
 -- ---- the window of an address
 
@@ -44,42 +43,46 @@ in_second (Private core) = false
 
 -- ---- the rows of a window
 
+abbrev at : Place → Access → Option Located
+at place access = Some (record { place = place; access = access })
+
 -- a register of core c
-abbrev pub on_core : ℕ → ipi.Found → Located
-on_core c message.Nothing = Nowhere
-on_core c (message.At e) = At (Message e.register c) e.access
+abbrev pub on_core : ℕ → Option (Entry ipi.Register) → Option Located
+on_core c None = None
+on_core c (Some e) = at (Message e.register c) e.access
 
 -- a register of the node
-abbrev pub on_node : node.Found → Located
-on_node found.Nothing = Nowhere
-on_node (found.At register access) = At (Node register) access
+abbrev pub on_node : Option (Entry node.Register) → Option Located
+on_node None = None
+on_node (Some e) = at (Node e.register) e.access
 
 -- the message cells: core c adds 0x100 times c
-unfoldable pub bus_messages : List (Row Located)
+unfoldable pub bus_messages : List (Row (Option Located))
 bus_messages = based 0 (on_core 0) table ++ based 0x100 (on_core 1) table
 
 -- the private window: without the core term, of the core that issues the access
-unfoldable pub messages_in : Window → List (Row Located)
+unfoldable pub messages_in : Window → List (Row (Option Located))
 messages_in First = bus_messages
 messages_in Second = bus_messages
 messages_in (Private core) = based 0 (on_core core) table
 
 -- section 8.2: the same offsets in every window
-unfoldable pub node_table : List (Row Located)
+unfoldable pub node_table : List (Row (Option Located))
 node_table = based 0 on_node nodes.table
 
-abbrev gate : Place → Widths → Located
-gate place widths = At place (record { rights = Both; widths = widths })
+-- a place that may be read and written
+abbrev pub gate : Place → Widths → Option Located
+gate place widths = at place (record { rights = Both; widths = widths })
 
 -- The first window alone has the gate, offset 0x0420: 8 bytes, or 4 bytes at 0x0420 or 0x0424. The private window has its core's status
 -- in the node, and the two sends.
-unfoldable pub alone_in : Window → List (Row Located)
+unfoldable pub alone_in : Window → List (Row (Option Located))
 alone_in First = row 0x0420 (gate Gate FourOrEight) ∷ row 0x0424 (gate GateHigh Four) ∷ []
 alone_in Second = []
 alone_in (Private core) = based 0 on_node (nodes.per_core core) ++ based 0 (on_core core) sends
 
-unfoldable pub window_table : Window → List (Row Located)
+unfoldable pub window_table : Window → List (Row (Option Located))
 window_table w = messages_in w ++ (node_table ++ alone_in w)
 
-unfoldable pub located_at : Address → Located
-located_at a = lookup Nowhere (window_table a.window) a.offset
+unfoldable pub located_at : Address → Option Located
+located_at a = lookup None (window_table a.window) a.offset

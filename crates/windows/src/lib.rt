@@ -2,13 +2,13 @@
 #![tactic(auto)]
 
 ghost use Rattle.std.specs.Prelude.{◌≡◌};
-ghost use Rattle.windows.specs.Table.{bus_address, in_second, located_at, on_core, on_node};
-ghost use Rattle.windows.specs.Private.{alone_at, beside_at, core_in, core_term, gate_at, own_offset, without_term};
+ghost use Rattle.windows.specs.Table.{bus_address, gate, in_second, located_at, on_core, on_node};
+ghost use Rattle.windows.specs.Private.{alone_at, beside_at, core_in, core_term, own_offset, without_term};
 
 use access::{Access, Rights, Widths};
 
 // The two windows of the bus, and the private window of a core.
-#[derive(Clone, Copy)]
+#[derive(Clone, Copy, PartialEq, Eq)]
 pub enum Window {
     First,
     Second,
@@ -37,25 +37,20 @@ pub enum Place {
 
 // A place, and how it may be accessed.
 #[derive(Clone, Copy)]
-pub enum Located {
-    Nowhere,
-    At { place: Place, access: Access },
+pub struct Located {
+    pub place: Place,
+    pub access: Access,
 }
 
 // The window of a bus address, and the offset in it. An address below both names nothing, as offset 0 does.
+// No Option: callers would carry it to `locate`, only to refuse it there as any other offset that names nothing.
 pub fn bus_address(address: u64) -> Address
     ensures { result ≡ bus_address address }
 {
-    if address < 0x1fe0_0000 {
-        return Address {
-            window: Window::First,
-            offset: 0,
-        };
-    }
     if address < 0x3ff0_0000 {
         return Address {
             window: Window::First,
-            offset: address - 0x1fe0_0000,
+            offset: address.saturating_sub(0x1fe0_0000),
         };
     }
     Address {
@@ -68,56 +63,42 @@ pub fn bus_address(address: u64) -> Address
 pub fn is_second(window: Window) -> bool
     ensures { result ≡ in_second window }
 {
-    match window {
-        Window::First => false,
-        Window::Second => true,
-        Window::Private(_) => false,
-    }
+    window == Window::Second
 }
 
 // A core's register.
-fn on_core(core: u64, found: ipi_registers::Found) -> Located
+fn on_core(core: u64, found: Option<ipi_registers::Entry>) -> Option<Located>
     ensures { result ≡ on_core core found }
 {
-    match found {
-        ipi_registers::Found::Nothing => Located::Nowhere,
-        ipi_registers::Found::At(entry) => {
-            let register = entry.register;
-            let access = entry.access;
-            Located::At {
-                place: Place::Message {
-                    register: register,
-                    core: core,
-                },
-                access: access,
-            }
-        }
-    }
+    let ipi_registers::Entry { register, access } = found?;
+    Some(Located {
+        place: Place::Message { register, core },
+        access,
+    })
 }
 
 // A register of the node.
-fn on_node(found: node_registers::Found) -> Located
+fn on_node(found: Option<node_registers::Entry>) -> Option<Located>
     ensures { result ≡ on_node found }
 {
-    match found {
-        node_registers::Found::Nothing => Located::Nowhere,
-        node_registers::Found::At { register, access } => Located::At {
-            place: Place::Node(register),
-            access: access,
-        },
-    }
+    let node_registers::Entry { register, access } = found?;
+    Some(Located {
+        place: Place::Node(register),
+        access,
+    })
 }
 
-fn gate_at(place: Place, widths: Widths) -> Located
-    ensures { result ≡ gate_at place widths }
+// A place that may be read and written.
+fn gate_at(place: Place, widths: Widths) -> Option<Located>
+    ensures { result ≡ gate place widths }
 {
-    Located::At {
-        place: place,
+    Some(Located {
+        place,
         access: Access {
             rights: Rights::Both,
-            widths: widths,
+            widths,
         },
-    }
+    })
 }
 
 // On the bus the message registers of core 1 stand 0x100 above those of core 0.
@@ -135,8 +116,7 @@ fn core_in(window: Window, offset: u64) -> u64
     ensures { result ≡ core_in window offset }
 {
     match window {
-        Window::First => core_term(offset),
-        Window::Second => core_term(offset),
+        Window::First | Window::Second => core_term(offset),
         Window::Private(core) => core,
     }
 }
@@ -155,25 +135,26 @@ fn own_offset(window: Window, offset: u64) -> u64
     ensures { result ≡ own_offset window offset }
 {
     match window {
-        Window::First => without_term(offset),
-        Window::Second => without_term(offset),
+        Window::First | Window::Second => without_term(offset),
         Window::Private(_) => offset,
     }
 }
 
 // What the first window alone has.
-fn first_alone(offset: u64) -> Located
+#[tactic(auto, unfolding(crate::specs::Private::alone_at, crate::specs::Table::alone_in))]
+fn first_alone(offset: u64) -> Option<Located>
     ensures { result ≡ alone_at Window.First offset }
 {
     match offset {
         0x0420 => gate_at(Place::Gate, Widths::FourOrEight),
         0x0424 => gate_at(Place::GateHigh, Widths::Four),
-        _ => Located::Nowhere,
+        _ => None,
     }
 }
 
 // What the private window of a core alone has.
-fn private_alone(core: u64, offset: u64) -> Located
+#[tactic(auto, using(crate::proofs::Ranges::private_alone))]
+fn private_alone(core: u64, offset: u64) -> Option<Located>
     ensures { result ≡ alone_at (Window.Private core) offset }
 {
     match offset {
@@ -182,18 +163,20 @@ fn private_alone(core: u64, offset: u64) -> Located
     }
 }
 
-fn alone(window: Window, offset: u64) -> Located
+#[tactic(auto, unfolding(crate::specs::Private::alone_at, crate::specs::Table::alone_in))]
+fn alone(window: Window, offset: u64) -> Option<Located>
     ensures { result ≡ alone_at window offset }
 {
     match window {
         Window::First => first_alone(offset),
-        Window::Second => Located::Nowhere,
+        Window::Second => None,
         Window::Private(core) => private_alone(core, offset),
     }
 }
 
 // What is no message register: what one window alone has, and the registers of the node, which every window has from 0x1400 on.
-fn beside(window: Window, offset: u64) -> Located
+#[tactic(auto, using(crate::proofs::Ranges::beside_alone, crate::proofs::Ranges::beside_node))]
+fn beside(window: Window, offset: u64) -> Option<Located>
     ensures { result ≡ beside_at window offset }
 {
     if offset < 0x1400 {
@@ -204,16 +187,13 @@ fn beside(window: Window, offset: u64) -> Located
 }
 
 // What an address names.
-pub fn locate(address: Address) -> Located
+#[tactic(auto, using(crate::proofs::Ranges::located_message))]
+pub fn locate(address: Address) -> Option<Located>
     ensures { result ≡ located_at address }
 {
-    let window = address.window;
-    let offset = address.offset;
+    let Address { window, offset } = address;
     match ipi_registers::entry_at(own_offset(window, offset)) {
-        ipi_registers::Found::Nothing => beside(window, offset),
-        ipi_registers::Found::At(entry) => on_core(
-            core_in(window, offset),
-            ipi_registers::Found::At(entry),
-        ),
+        None => beside(window, offset),
+        found => on_core(core_in(window, offset), found),
     }
 }

@@ -1,0 +1,6 @@
+use Rattle.std.proofs.Common.{rules}
+use Rattle.text.proofs.Buffers.{put_digits}
+use Rattle.text.proofs.put_hex.Goals as goal
+
+pub returns : goal.returns
+returns c = search (rules, put_digits)
