@@ -64,7 +64,7 @@ fn walk(
     pen: Option<usize>,
     write: bool,
 ) -> Walked
-    ensures { Walks (look_in ids.entry.text.now ids.entry.table.now) (tokens_from ids.entry.text.now from) state_start times_start first out.old write pen result out.new }
+    ensures { Walks (look_in ids.entry.text.now ids.entry.inputs.now ids.entry.known.now) (tokens_from ids.entry.text.now from) state_start times_start first out.old write pen result out.new }
 {
     let mut state = capture_commands::start();
     let mut now = first;
@@ -90,7 +90,7 @@ fn walk(
 
 // The whole dump, behind no byte.
 fn walk_all(ids: Ids<'_>, from: usize, first: Stepped, out: &mut [u8], write: bool) -> Walked
-    ensures { Wholes (look_in ids.entry.text.now ids.entry.table.now) (tokens_from ids.entry.text.now from) first out.old write result out.new }
+    ensures { Wholes (look_in ids.entry.text.now ids.entry.inputs.now ids.entry.known.now) (tokens_from ids.entry.text.now from) first out.old write result out.new }
 {
     let pen = put_opening(out, Some(0), write);
     walk(ids, from, first, out, pen, write)
@@ -98,7 +98,7 @@ fn walk_all(ids: Ids<'_>, from: usize, first: Stepped, out: &mut [u8], write: bo
 
 // A first walk judges and measures, and a second one writes.
 fn replay_rest(d: Device, ids: Ids<'_>, from: usize, out: &mut [u8]) -> Replayed
-    ensures { Rests (look_in ids.entry.text.now ids.entry.table.now) (tokens_from ids.entry.text.now from) (length ids.entry.text.now) out.old d result out.new }
+    ensures { Rests (look_in ids.entry.text.now ids.entry.inputs.now ids.entry.known.now) (tokens_from ids.entry.text.now from) (length ids.entry.text.now) out.old d result out.new }
 {
     let first = begin(d);
     let tried = walk_all(ids, from, first, out, false);
@@ -131,13 +131,16 @@ fn replay(d: Device, s: &[u8], out: &mut [u8], used: usize) -> Replayed
     ensures value { result ≡ replay_of d s.now out.old used }
     ensures out_after { out.new ≡ buffer_of d s.now out.old used }
 {
-    let mut table = [None; SLOTS];
-    let headed = capture_ids::index(s, &mut table);
+    // Two tables: docs/PROOFS.md names `index`, whose promise is of two, of any lengths and words.
+    let mut inputs = [0u64; SLOTS];
+    let mut known = [0u64; SLOTS];
+    let headed = capture_ids::index(s, &mut inputs, &mut known);
     let head = headed.head;
     if head.field == Field::Command {
         let ids = Ids {
             text: s,
-            table: &table,
+            inputs: &inputs,
+            known: &known,
         };
         let start = used.min(out.len());
         let rest = replay_rest(d, ids, headed.at, &mut out[start..]);

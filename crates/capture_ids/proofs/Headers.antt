@@ -3,10 +3,10 @@ use Prim.Native.Nat.{ℕ, ◌-◌}
 use mathlib.Core.Path.{◌≡◌, refl, sym, ap, ap₂, ◌∙◌}
 use mathlib.Core.Bool.{true, false}
 use mathlib.Core.List.{List, [], ◌∷◌}
-use Rattle.std.specs.Prelude.{Option, Some, None}
+use Rattle.std.specs.Prelude.{Option}
 use native.Mathlib.Omega.{arith}
 use borrow.Table.Steps.{cases}
-use lib.ListN.{length, take, drop, length-set}
+use lib.ListN.{length, take, drop}
 use Rattle.text.specs.declared.Span.{Span}
 use Rattle.capture_tokens.specs.Tokens.{token, tokens_from}
 use Rattle.capture_tokens.proofs.Tokens.{Found, past_the_end}
@@ -15,7 +15,7 @@ use Rattle.capture_header.specs.Header.{head_next, ends, begins}
 use Rattle.capture_ids.specs.declared.Headed.{Headed}
 use Rattle.capture_ids.specs.declared.Past.TheVariants.{Ended, Next}
 use Rattle.capture_ids.specs.Ids.{Variable, Header, header_from, header_of, headed_of, added, look_from, place_of}
-use Rattle.capture_ids.specs.Table.{slot_of, table_at, table_noted}
+use Rattle.capture_ids.specs.Table.{inputs_noted, known_noted}
 use Rattle.capture_ids.specs.Private.{left, Stops, Goes, Passed}
 
 -- ---- the header from a state on, by its next token
@@ -72,7 +72,7 @@ module _ (s : List ℕ) (h : Head) (at : ℕ) (end : (left s h at).head ≡ (hea
   pub headed_goes : (k : Head) (n : ℕ) → Goes s h at k n → ((left s k n).head ≡ (header_of s).head) × ((left s k n).rest ≡ (header_of s).rest)
   headed_goes k n e = (sym (ap (λ (r : Header). r.head) e.whole) ∙ end, sym (ap (λ (r : Header). r.rest) e.whole) ∙ rest)
 
--- ---- the two folds
+-- ---- the three folds
 
 module _ (x : List ℕ) where
   pub look_none : (l : Option ℕ) → look_from x l [] ≡ l
@@ -83,39 +83,44 @@ module _ (x : List ℕ) where
   unfolding look_from
   look_one l v vs = refl
 
-pub table_none : (l : List (Option ℕ)) → table_noted l [] ≡ l
-unfolding table_noted
-table_none l = refl
+pub inputs_none : (l : List ℕ) → inputs_noted l [] ≡ l
+unfolding inputs_noted
+inputs_none l = refl
 
-pub table_one : (l : List (Option ℕ)) (v : Variable) (vs : List Variable) → table_noted l (v ∷ vs) ≡ table_noted (table_noted l (v ∷ [])) vs
-unfolding table_noted
-table_one l v vs = refl
+pub inputs_one : (l : List ℕ) (v : Variable) (vs : List Variable) → inputs_noted l (v ∷ vs) ≡ inputs_noted (inputs_noted l (v ∷ [])) vs
+unfolding inputs_noted
+inputs_one l v vs = refl
 
--- ---- the table stays as long as it is
+pub known_none : (l : List ℕ) → known_noted l [] ≡ l
+unfolding known_noted
+known_none l = refl
 
-pub at_length : (l : List (Option ℕ)) (slot input : Option ℕ) → length (table_at l slot input) ≡ length l
-unfolding table_at
-at_length l None input = refl
-at_length l (Some k) input = length-set l k _
+pub known_one : (l : List ℕ) (v : Variable) (vs : List Variable) → known_noted l (v ∷ vs) ≡ known_noted (known_noted l (v ∷ [])) vs
+unfolding known_noted
+known_one l v vs = refl
 
-pub table_length : (l : List (Option ℕ)) (vs : List Variable) → length (table_noted l vs) ≡ length l
-unfolding table_noted
-table_length l [] = refl
-table_length l (v ∷ vs) = table_length (table_at l (slot_of v.id) v.input) vs ∙ at_length l (slot_of v.id) v.input
+-- ---- a header that is being read into two tables: from here on it ends as the whole does, and each table so far, with what the rest declares, is that of the whole
 
--- ---- a header that is being read into a table: from here on it ends as the whole does, and the table so far, with what the rest declares, is that of the whole
-
-module _ (s : List ℕ) (first : List (Option ℕ)) where
-  pub record Indexes (h : Head) (at : ℕ) (table : List (Option ℕ)) : Type 0 where
+module _ (s : List ℕ) (inputs₀ known₀ : List ℕ) where
+  pub record Indexes (h : Head) (at : ℕ) (inputs known : List ℕ) : Type 0 where
     pub head : (left s h at).head ≡ (header_of s).head
     pub rest : (left s h at).rest ≡ (header_of s).rest
-    pub noted : table_noted table (left s h at).variables ≡ table_noted first (header_of s).variables
+    pub inputs_so_far : inputs_noted inputs (left s h at).variables ≡ inputs_noted inputs₀ (header_of s).variables
+    pub known_so_far : known_noted known (left s h at).variables ≡ known_noted known₀ (header_of s).variables
 
-  module _ {h : Head} {at : ℕ} {table : List (Option ℕ)} (i : Indexes h at table) where
-    pub indexes_more : (k : Head) (n : ℕ) → Goes s h at k n → (b : List (Option ℕ)) → b ≡ table_noted table (added s h k []) → Indexes k n b
-    indexes_more k n e b p =
+  module _ {h : Head} {at : ℕ} {inputs known : List ℕ} (i : Indexes h at inputs known) where
+    pub indexes_more : (k : Head) (n : ℕ) → Goes s h at k n → (a b : List ℕ) → a ≡ inputs_noted inputs (added s h k []) → b ≡ known_noted known (added s h k []) → Indexes k n a b
+    indexes_more k n e a b p q =
         let g = headed_goes s h at i.head i.rest k n e in
-        record { head = g.0; rest = g.1; noted = fold_goes table_noted table_none table_one s table h at _ i.noted k n e b p }
+        record {
+          head = g.0;
+          rest = g.1;
+          inputs_so_far = fold_goes inputs_noted inputs_none inputs_one s inputs h at _ i.inputs_so_far k n e a p;
+          known_so_far = fold_goes known_noted known_none known_one s known h at _ i.known_so_far k n e b q;
+        }
 
-    pub indexed : (n : ℕ) → Stops s h at n → table ≡ table_noted first (header_of s).variables
-    indexed n e = fold_stops table_noted table_none table_one s table h at _ i.noted n e
+    pub inputs_indexed : (n : ℕ) → Stops s h at n → inputs ≡ inputs_noted inputs₀ (header_of s).variables
+    inputs_indexed n e = fold_stops inputs_noted inputs_none inputs_one s inputs h at _ i.inputs_so_far n e
+
+    pub known_indexed : (n : ℕ) → Stops s h at n → known ≡ known_noted known₀ (header_of s).variables
+    known_indexed n e = fold_stops known_noted known_none known_one s known h at _ i.known_so_far n e

@@ -2,12 +2,12 @@
 // the header says of an id is looked up in a table, where it is short, and else by reading the header again.
 #![tactic(auto)]
 
-ghost use Rattle.std.specs.Prelude.{◌≡◌, [], take, drop};
+ghost use Rattle.std.specs.Prelude.{◌≡◌, [], take, drop, set};
 ghost use Rattle.capture_tokens.specs.Tokens.{tokens_from};
 ghost use Rattle.capture_ids.specs.Private.{Passed};
 ghost use Rattle.capture_ids.specs.Ids as ids;
 ghost use Rattle.capture_ids.specs.Ids.{header_of, look_of, headed_of, added};
-ghost use Rattle.capture_ids.specs.Table.{slot_of, table_at, table_noted, look_in};
+ghost use Rattle.capture_ids.specs.Table.{slot_of, inputs_noted, known_noted, look_in};
 
 use capture_header::{Head, begins, ends, next, start, with_input};
 use capture_tokens::token;
@@ -24,11 +24,13 @@ pub struct Headed {
     pub at: usize,
 }
 
-// A text and the table of its header's ids: of each slot None where its id is not declared, else the inputs that have it, bit i for input i.
+// A text and the tables of its header's ids: of each slot the inputs that have its id, bit i for input i, and 1 where the id is declared.
+// Two tables, and no table of Option: docs/PROOFS.md names `index`, whose promise is of two tables of any lengths and words.
 #[derive(Clone, Copy)]
 pub struct Ids<'a> {
     pub text: &'a [u8],
-    pub table: &'a [Option<u64>],
+    pub inputs: &'a [u64],
+    pub known: &'a [u64],
 }
 
 // What comes next in a header: its end, at a place, or a token, with the state and the place after it.
@@ -47,16 +49,17 @@ fn part(s: &[u8], from: usize, size: usize) -> &[u8]
     &left[..size.min(left.len())]
 }
 
-// The slot of an id, if it has one.
+// The slot of an id; SLOTS where it has none.
+// A number, and no Option: `index` notes such an id at that place, where a table has it.
 #[tactic(auto, unfolding(crate::specs::Table::slot_of))]
-fn slot(x: &[u8]) -> Option<usize>
+fn slot(x: &[u8]) -> usize
     ensures { result ≡ slot_of x.now }
 {
     match *x {
-        [] => Some(0),
-        [c] if c < 128 => Some(1 + c as usize),
-        [c, d] if c < 128 && d < 128 => Some(129 + 128 * c as usize + d as usize),
-        _ => None,
+        [] => 0,
+        [c] if c < 128 => 1 + c as usize,
+        [c, d] if c < 128 && d < 128 => 129 + 128 * c as usize + d as usize,
+        _ => SLOTS,
     }
 }
 
@@ -68,25 +71,26 @@ fn more_known(known: Option<u64>, input: Option<u64>) -> Option<u64>
     Some(with_input(known.unwrap_or(0), input))
 }
 
-#[tactic(auto, unfolding(crate::specs::Table::table_at))]
-fn note_at(table: &mut [Option<u64>], slot: Option<usize>, input: Option<u64>)
-    ensures { table.new ≡ table_at table.old slot input }
+fn note_at(table: &mut [u64], k: usize, word: u64)
+    ensures { table.new ≡ set table.old k word }
 {
-    if let Some(k) = slot {
-        if k < table.len() {
-            table[k] = more_known(table[k], input);
-        }
+    if k < table.len() {
+        table[k] = word;
     }
 }
 
 // Notes the variable of a declaration that has ended.
-#[tactic(auto, unfolding(crate::specs::Table::table_noted))]
-fn note(s: &[u8], before: Head, after: Head, table: &mut [Option<u64>])
-    ensures { table.new ≡ table_noted table.old (added s.now before after []) }
+#[tactic(auto, unfolding(crate::specs::Table::inputs_noted, crate::specs::Table::inputs_at, crate::specs::Table::known_noted, crate::specs::Table::known_at))]
+fn note(s: &[u8], before: Head, after: Head, inputs: &mut [u64], known: &mut [u64])
+    ensures inputs_after { inputs.new ≡ inputs_noted inputs.old (added s.now before after []) }
+    ensures known_after { known.new ≡ known_noted known.old (added s.now before after []) }
 {
     if ends(before.field, after.field) {
         let v = before.var;
-        note_at(table, slot(part(s, v.start, v.size)), v.input);
+        let k = slot(part(s, v.start, v.size));
+        let held = inputs.get(k).copied().unwrap_or(0);
+        note_at(inputs, k, with_input(held, v.input));
+        note_at(known, k, 1);
     }
 }
 
@@ -108,11 +112,12 @@ fn pass(s: &[u8], h: Head, at: usize) -> Past
     }
 }
 
-// Reads the header of a text, and notes its variables in a table.
-pub fn index(s: &[u8], table: &mut [Option<u64>]) -> Headed
+// Reads the header of a text, and notes its variables in two tables.
+pub fn index(s: &[u8], inputs: &mut [u64], known: &mut [u64]) -> Headed
     ensures value { result ≡ headed_of s.now }
     ensures at_value { tokens_from s.now result.at ≡ (header_of s.now).rest }
-    ensures table_after { table.new ≡ table_noted table.old (header_of s.now).variables }
+    ensures inputs_after { inputs.new ≡ inputs_noted inputs.old (header_of s.now).variables }
+    ensures known_after { known.new ≡ known_noted known.old (header_of s.now).variables }
 {
     let mut h = start();
     let mut at = 0;
@@ -120,7 +125,7 @@ pub fn index(s: &[u8], table: &mut [Option<u64>]) -> Headed
         match pass(s, h, at) {
             Past::Ended(end) => return Headed { head: h, at: end },
             Past::Next { head, at: end } => {
-                note(s, h, head, table);
+                note(s, h, head, inputs, known);
                 h = head;
                 at = end;
             }
@@ -142,7 +147,7 @@ fn noted(s: &[u8], known: Option<u64>, before: Head, after: Head, x: &[u8]) -> O
 }
 
 // What the header of a text says of an id.
-// A loop of its own beside `index`: that writes to a table, this hands on what is known; a closure would need the clauses of both.
+// A loop of its own beside `index`: that writes to tables, this hands on what is known; a closure would need the clauses of both.
 pub fn find(s: &[u8], x: &[u8]) -> Option<u64>
     ensures { result ≡ look_of (header_of s.now).variables x.now }
 {
@@ -158,14 +163,16 @@ pub fn find(s: &[u8], x: &[u8]) -> Option<u64>
 }
 
 impl<'a> Ids<'a> {
-    // What the header says of an id, by the table where the id has a slot.
-    #[tactic(auto, unfolding(crate::specs::Table::look_at))]
+    // What the header says of an id, by the tables where the id has a slot.
+    #[tactic(auto, unfolding(crate::specs::Table::look_in, crate::specs::Table::has_slot))]
     pub fn look_up(self, x: &[u8]) -> Option<u64>
-        ensures { result ≡ look_in self.entry.text.now self.entry.table.now x.now }
+        ensures { result ≡ look_in self.entry.text.now self.entry.inputs.now self.entry.known.now x.now }
     {
-        match slot(x) {
-            Some(k) if k < self.table.len() => self.table[k],
-            _ => find(self.text, x),
+        let k = slot(x);
+        if k < SLOTS && (k < self.inputs.len() && k < self.known.len()) {
+            (self.known[k] == 1).then_some(self.inputs[k])
+        } else {
+            find(self.text, x)
         }
     }
 }

@@ -10,14 +10,14 @@ overflow_add-result c =
     let n = c.index-headed in
     ⊎_elim (λ f. omega (arith, c.well_formed)) (λ z. omega (arith, c.ranges))
     (used_fits a.d a.s.now a.out.now a.used n.result n.ensures.value (sym (same_command n.result.head.field) ∙ sym c.eq.ensures ∙ c.if-eq.true) c.min-start.result c.min-start.ensures
-    _ (λ x. table_look a.s.now x _ n.ensures.table_after) _ n.ensures.at_value c.replay_rest-rest.result _ c.replay_rest-rest.ensures)
+    _ (λ x. table_look a.s.now x _ _ n.ensures.inputs_after n.ensures.known_after) _ n.ensures.at_value c.replay_rest-rest.result _ c.replay_rest-rest.ensures)
 
 pub returns-then-eq : goal.returns-then-eq
 returns-then-eq c =
     let a = c.args in
     let n = c.index-headed in
     let g = replay_good a.d a.s.now a.out.now a.used n.result n.ensures.value (sym (same_command n.result.head.field) ∙ sym c.eq.ensures ∙ c.if-eq.true) c.min-start.result c.min-start.ensures
-    _ (λ x. table_look a.s.now x _ n.ensures.table_after) _ n.ensures.at_value c.replay_rest-rest.result _ c.replay_rest-rest.ensures in
+    _ (λ x. table_look a.s.now x _ _ n.ensures.inputs_after n.ensures.known_after) _ n.ensures.at_value c.replay_rest-rest.result _ c.replay_rest-rest.ensures in
     record { value = g.0; out_after = g.1 }
 
 pub returns-then-eq-2 : goal.returns-then-eq-2

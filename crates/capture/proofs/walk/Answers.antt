@@ -28,7 +28,7 @@ pub loop-span-preserved : goal.loop-span-preserved
 loop-span-preserved c =
     let l = c.loop-span in
     let s = c.args.ids.text.now in
-    let look = look_in s c.args.ids.table.now in
+    let look = look_in s c.args.ids.inputs.now c.args.ids.known.now in
     let at = c.token-span.result in
     let k = token at.start (take (at.end - at.start) (drop at.start s)) in
     let f = token_some s l.at at c.token-span.ensures c.if-span.false in

@@ -11,8 +11,8 @@ use Rattle.capture.proofs.walk.Given as goal
 abbrev pub invariant-loop-span : goal.invariant-loop-span
 invariant-loop-span l =
     (r : Walked) (after : List ℕ)
-    → Walks (look_in l.ids.text.now l.ids.table.now) (tokens_from l.ids.text.now l.at) l.state l.time l.now l.out l.write l.pen r after
-    → Walks (look_in l.ids.text.now l.ids.table.now) (tokens_from l.ids.text.now l.from) state_start times_start l.fn.first l.fn.out l.write l.fn.pen r after
+    → Walks (look_in l.ids.text.now l.ids.inputs.now l.ids.known.now) (tokens_from l.ids.text.now l.at) l.state l.time l.now l.out l.write l.pen r after
+    → Walks (look_in l.ids.text.now l.ids.inputs.now l.ids.known.now) (tokens_from l.ids.text.now l.from) state_start times_start l.fn.first l.fn.out l.write l.fn.pen r after
 
 abbrev pub decreases-loop-span : goal.decreases-loop-span
 decreases-loop-span l = length l.ids.text.now - l.at
