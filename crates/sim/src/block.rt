@@ -3,6 +3,7 @@ ghost use Rattle.std.specs.Prelude.{◌≤◌};
 
 use crate::cells::CellName;
 use crate::errors::LineError;
+use crate::number::{decimal, hex};
 use crate::output::Output;
 use crate::request::Row;
 use clashes::{Clash, find_clash};
@@ -29,9 +30,9 @@ fn put_clash<P: Print>(
     out: &mut Output<'_, P>,
 ) -> io::Result<()> {
     if let Some(Clash { cell, bits }) = find_clash(second_open, step_of(a), step_of(b)) {
-        let (first, second) = (a[6], b[6]);
-        let cell = CellName(cell);
-        out.put_line(format_args!("{line} clash {first} {second} {cell} 0x{bits:x}"))?;
+        let (line, first, second) = (decimal(line), decimal(a[6]), decimal(b[6]));
+        let (cell, bits) = (CellName(cell), hex(bits));
+        out.put_line(format_args!("{line} clash {first} {second} {cell} 0x{bits}"))?;
     }
     Ok(())
 }
@@ -71,9 +72,10 @@ impl Block {
                 put_clash(*a, *b, device.second_open, line, out)?;
             }
         }
+        let number = decimal(line);
         match script::clash_count(device, &self.rows, self.writes) {
-            0 => out.put_line(format_args!("{line} free {}", self.writes)),
-            count => out.put_line(format_args!("{line} clashes {count}")),
+            0 => out.put_line(format_args!("{number} free {}", decimal(self.writes as u64))),
+            count => out.put_line(format_args!("{number} clashes {}", decimal(count))),
         }
     }
 }

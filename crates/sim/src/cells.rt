@@ -1,4 +1,5 @@
 // The names of the cells that writes clash on.
+use crate::number::decimal;
 use reorder::Cell;
 use std::fmt;
 
@@ -31,7 +32,7 @@ impl fmt::Display for CoreCell {
         match self.0 {
             ipi_registers::Cell::Status => write!(f, "Status"),
             ipi_registers::Cell::Enable => write!(f, "Enable"),
-            ipi_registers::Cell::MailBox(i) => write!(f, "MailBox{i}"),
+            ipi_registers::Cell::MailBox(i) => write!(f, "MailBox{}", decimal(i)),
         }
     }
 }
@@ -41,7 +42,7 @@ impl fmt::Display for BridgeCell {
         match self.0 {
             bridge_registers::Cell::Mask => write!(f, "INT_MASK"),
             bridge_registers::Cell::Msi => write!(f, "MSI_EN"),
-            bridge_registers::Cell::Route(i) => write!(f, "ROUTE_ENTRY {i}"),
+            bridge_registers::Cell::Route(i) => write!(f, "ROUTE_ENTRY {}", decimal(i)),
         }
     }
 }
@@ -50,7 +51,7 @@ impl fmt::Display for NodeCell {
     fn fmt<W: fmt::Write>(&self, f: &mut fmt::Formatter<W>) -> fmt::Result {
         match self.0 {
             node_registers::Cell::Inten => write!(f, "Inten"),
-            node_registers::Cell::Entry(i) => write!(f, "Entry {i}"),
+            node_registers::Cell::Entry(i) => write!(f, "Entry {}", decimal(i)),
         }
     }
 }

@@ -1,4 +1,5 @@
 // What a script has counted; at its largest a count stays.
+use crate::number::decimal;
 use std::fmt;
 
 #[derive(Clone, Copy, Default)]
@@ -33,15 +34,11 @@ impl Counts {
 
 impl fmt::Display for Counts {
     fn fmt<W: fmt::Write>(&self, f: &mut fmt::Formatter<W>) -> fmt::Result {
-        let Counts {
-            steps,
-            refused,
-            errors,
-            passed,
-            failed,
-        } = *self;
+        let (steps, refused) = (decimal(self.steps), decimal(self.refused));
+        let errors = decimal(self.errors);
         write!(f, "{steps} steps, {refused} refused, {errors} errors")?;
-        if passed != 0 || failed != 0 {
+        if self.passed != 0 || self.failed != 0 {
+            let (passed, failed) = (decimal(self.passed), decimal(self.failed));
             write!(f, ", {passed} passed, {failed} failed")?;
         }
         Ok(())

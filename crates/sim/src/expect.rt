@@ -1,5 +1,6 @@
 // What the last step answered, and what is expected of it.
 use crate::flags::Flags;
+use crate::number::{decimal, hex};
 use answers::Answer;
 use std::fmt;
 
@@ -14,10 +15,10 @@ pub(crate) enum Expectation {
 impl fmt::Display for Expectation {
     fn fmt<W: fmt::Write>(&self, f: &mut fmt::Formatter<W>) -> fmt::Result {
         match *self {
-            Expectation::Value(value) => write!(f, "0x{value:x}"),
-            Expectation::Refused(number) => write!(f, "refused {number}"),
+            Expectation::Value(value) => write!(f, "0x{}", hex(value)),
+            Expectation::Refused(number) => write!(f, "refused {}", decimal(number)),
             Expectation::Lines(flags) => write!(f, "lines {flags}"),
-            Expectation::Moved(word) => write!(f, "moved 0x{word:x}"),
+            Expectation::Moved(word) => write!(f, "moved 0x{}", hex(word)),
         }
     }
 }
@@ -57,9 +58,10 @@ impl Last {
 
 impl fmt::Display for Last {
     fn fmt<W: fmt::Write>(&self, f: &mut fmt::Formatter<W>) -> fmt::Result {
+        let (lines, moved) = (self.lines, hex(self.moved));
         match self.outcome {
-            Ok(value) => write!(f, "ok 0x{value:x} {} 0x{:x}", self.lines, self.moved),
-            Err(number) => write!(f, "refused {number} {} 0x{:x}", self.lines, self.moved),
+            Ok(value) => write!(f, "ok 0x{} {lines} 0x{moved}", hex(value)),
+            Err(number) => write!(f, "refused {} {lines} 0x{moved}", decimal(number)),
         }
     }
 }

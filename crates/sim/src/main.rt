@@ -10,6 +10,7 @@ mod files;
 mod flags;
 mod form;
 mod input;
+mod number;
 mod output;
 mod parse;
 mod replay;

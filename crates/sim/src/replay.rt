@@ -2,6 +2,7 @@
 use crate::errors::{Failure, LineError};
 use crate::files::{FileError, read_file, write_file};
 use crate::flags::Flags;
+use crate::number::decimal;
 use device::Device;
 use std::fmt;
 use std::rt::Files;
@@ -37,8 +38,11 @@ impl fmt::Display for Ending {
     fn fmt<W: fmt::Write>(&self, f: &mut fmt::Formatter<W>) -> fmt::Result {
         let lines = self.lines;
         match self.outcome {
-            Ok(length) => write!(f, "replayed {length} {lines}"),
-            Err(Refused { number, place }) => write!(f, "refused {number} {lines} at {place}"),
+            Ok(length) => write!(f, "replayed {} {lines}", decimal(length as u64)),
+            Err(Refused { number, place }) => {
+                let (number, place) = (decimal(number), decimal(place as u64));
+                write!(f, "refused {number} {lines} at {place}")
+            }
         }
     }
 }
@@ -76,6 +80,8 @@ fn replay_into<'a>(
 }
 
 // Replays the capture of a file, and writes the dump of one that is accepted to a file.
+// Not inlined: the tables of a replay are large, and a line without one would pay for their place on the stack.
+#[inline(never)]
 pub(crate) fn replay_file<'a>(
     rt: &(impl Files + Alloc),
     device: Device,

@@ -4,6 +4,7 @@ use crate::counts::Counts;
 use crate::errors::{Failure, LineError};
 use crate::expect::{Expectation, Last};
 use crate::flags::Flags;
+use crate::number::decimal;
 use crate::output::Output;
 use crate::parse::parse;
 use crate::replay::{Ending, replay_file};
@@ -60,7 +61,7 @@ impl Run {
         self.device = stepped.device;
         let last = Last::from(stepped.answer);
         self.count_step(last);
-        let line = self.line;
+        let line = decimal(self.line);
         Ok(out.put_line(format_args!("{line} {last}"))?)
     }
 
@@ -85,7 +86,7 @@ impl Run {
             lines,
             moved: 0,
         });
-        let line = self.line;
+        let line = decimal(self.line);
         let ending = Ending { outcome, lines };
         Ok(out.put_line(format_args!("{line} {ending}"))?)
     }
@@ -108,7 +109,7 @@ impl Run {
         let got = last.beside(expected);
         let met = got == expected;
         self.counts.count_judged(met);
-        let line = self.line;
+        let line = decimal(self.line);
         if met {
             out.put_line(format_args!("{line} met"))?;
         } else {
@@ -158,7 +159,7 @@ impl Run {
     ) -> io::Result<()> {
         self.counts.count_error();
         self.after_error = true;
-        out.put_line(format_args!("{line} error {error}"))
+        out.put_line(format_args!("{} error {error}", decimal(line)))
     }
 
     // Runs the next line.

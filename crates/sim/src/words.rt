@@ -15,12 +15,17 @@ impl<'a> Iterator for Words<'a> {
     type Item = &'a str;
 
     fn next(&mut self) -> Option<&'a str> {
-        let span = text::token(self.text, self.at);
-        self.at = span.end;
-        match str::from_utf8(self.text.get(span.start..span.end)?) {
-            Ok(word) if !word.is_empty() => Some(word),
-            _ => None,
+        if self.text.len() <= self.at {
+            return None;
         }
+        let span = text::token(self.text, self.at);
+        if span.start == span.end {
+            // No word is left: what follows is not read again at each of the calls that are still to come.
+            self.at = self.text.len();
+            return None;
+        }
+        self.at = span.end;
+        str::from_utf8(self.text.get(span.start..span.end)?).ok()
     }
 }
 
