@@ -84,7 +84,7 @@ fn flag(number: u64) -> Option<bool>
     match number {
         0 => Some(false),
         1 => Some(true),
-        _ => None,
+        2.. => None,
     }
 }
 

@@ -7,7 +7,7 @@ use native.Mathlib.Omega.{arith}
 use native.Mathlib.Numerals.{add-one}
 use lib.ListN.{length, length-drop, drop, get_or, take}
 use lib.Seq.{drop-cons}
-use Rattle.std.proofs.lemmas.List.{drop_all, take_all, take_min}
+use Rattle.std.proofs.lemmas.List.{drop_all, take_min}
 use Rattle.std.specs.Prelude.{Option, Some, None, is_some}
 use Rattle.steps.specs.declared.Step.{Step}
 use Rattle.clashes.specs.declared.Clash.{Clash}
@@ -46,10 +46,6 @@ with_none o w lines i h = rw (drop_all i lines h)
 pub count_none : (o : Bool) (lines : List (List ℕ)) (i : ℕ) → length lines ≤ i → clash_count o (map line_step (drop i lines)) ≡ 0
 unfolding clash_count
 count_none o lines i h = rw (drop_all i lines h)
-
--- a slice from line k to the end
-pub to_end : (k : ℕ) (lines : List (List ℕ)) → take (length lines - k) (drop k lines) ≡ drop k lines
-to_end k lines = take_all (length lines - k) (drop k lines) (omega (arith, length-drop k lines))
 
 -- more lines than there are add nothing
 pub steps_first : (n m : ℕ) (lines : List (List ℕ)) → length lines ≡ m → map line_step (take (min n m) lines) ≡ line_steps n lines

@@ -3,7 +3,7 @@
 
 mod form;
 
-ghost use Rattle.std.specs.Prelude.{◌≡◌, ◌≤◌, length, map};
+ghost use Rattle.std.specs.Prelude.{◌≡◌, ◌+◌, ◌<◌, ◌≤◌, drop, length, map};
 ghost use Rattle.script.specs.Line.{form_step, line_step, line_steps};
 ghost use Rattle.script.specs.Block.{BlockRule, clash_count, clashes_with};
 
@@ -45,6 +45,14 @@ fn clashes_with(write: Step, lines: &[[u64; 7]], second_open: bool) -> u64
     count
 }
 
+// The lines behind one.
+fn behind(lines: &[[u64; 7]], i: usize) -> &[[u64; 7]]
+    requires { i < length lines.now }
+    ensures { result.now ≡ drop (i + 1) lines.now }
+{
+    &lines[(i + 1).min(lines.len())..]
+}
+
 // How many pairs of the writes clash.
 fn clashes_among(lines: &[[u64; 7]], second_open: bool) -> u64
     requires { length lines.now ≤ 256 }
@@ -52,7 +60,7 @@ fn clashes_among(lines: &[[u64; 7]], second_open: bool) -> u64
 {
     let mut count = 0;
     for (i, line) in lines.iter().enumerate() {
-        count += clashes_with(step_of(*line), &lines[i + 1..], second_open);
+        count += clashes_with(step_of(*line), behind(lines, i), second_open);
     }
     count
 }
